@@ -23,24 +23,35 @@ where
 }
 
 fn check_found<R: Files + AllocGlobal>(rt: &R, found: &Directories) -> Result<Checked, Fault> {
-    let alloc = rt.alloc();
-    let path = found.common.as_str();
-    let files = StoredFiles::new(rt);
-    let mut reader = match open_reader(alloc, &files, path) {
-        Ok(reader) => reader,
-        Err(fault) => return Err(repository_fault(alloc, path, &fault)),
-    };
-    match check_repository(&found.refs(alloc, rt), &mut reader) {
+    match check_objects(rt, found) {
         Ok(checked) => Ok(checked),
-        Err(CheckFault::Repository(fault)) => Err(repository_fault(alloc, path, &fault)),
-        Err(CheckFault::Ref { name, fault }) => Err(Fault::of(
+        Err(fault) => Err(fault_of_check(rt.alloc(), found.common.as_str(), &fault)),
+    }
+}
+
+fn check_objects<R: Files + AllocGlobal>(
+    rt: &R,
+    found: &Directories,
+) -> Result<Checked, CheckFault<Global>> {
+    let files = StoredFiles::new(rt);
+    match open_reader(rt.alloc(), &files, found.common.as_str()) {
+        Ok(mut reader) => check_repository(&found.refs(rt.alloc(), rt), &mut reader),
+        Err(fault) => Err(CheckFault::Repository(fault)),
+    }
+}
+
+// Converts the reason why the check of the repository at a path failed into a `Fault`.
+fn fault_of_check(alloc: Global, path: &str, fault: &CheckFault<Global>) -> Fault {
+    match fault {
+        CheckFault::Repository(fault) => repository_fault(alloc, path, fault),
+        CheckFault::Ref { name, fault } => Fault::of(
             alloc,
             Sentence::BrokenRef {
                 path,
                 name: name.as_bytes(),
-                fault: &fault,
+                fault,
             },
-        )),
+        ),
     }
 }
 

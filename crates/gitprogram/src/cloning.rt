@@ -11,7 +11,7 @@ use crate::fetching::{Fetch, StoredFetch, Wanted, progress_of, receive};
 use crate::opening::repository_fault;
 use crate::progress::Progress;
 use crate::remote::{Remote, tips_of};
-use crate::sentences::Sentence;
+use crate::sentences::{OCCUPIED, Sentence};
 use gclient::{Repo, Spec};
 use ggraph::{Head, Refs, Target};
 use gitrefs::{Cause, RefFault};
@@ -78,10 +78,16 @@ where
 // Returns the HEAD for the clone, and the ids of the server's refs. The names of the refs can use
 // much memory, so this function drops them. The fetch lists the refs again.
 fn server_refs_of<R: AllocGlobal + Net>(rt: &R, remote: &Remote) -> Result<ServerRefs, Fault> {
-    let alloc = rt.alloc();
-    let listed = list(rt, remote)?;
-    let head = head_of(alloc, &listed)?;
-    let tips = tips_of(alloc, &listed)?;
+    match list(rt, remote) {
+        Ok(listed) => server_refs_in(rt.alloc(), &listed),
+        Err(fault) => Err(fault),
+    }
+}
+
+// Returns the HEAD for the clone, and the ids of the refs, given the server's reply to ls-refs.
+fn server_refs_in(alloc: Global, listed: &LsReply<Global>) -> Result<ServerRefs, Fault> {
+    let head = head_of(alloc, listed)?;
+    let tips = tips_of(alloc, listed)?;
     Ok(ServerRefs { head, tips })
 }
 
@@ -97,14 +103,23 @@ fn check_vacant<R: Files + AllocGlobal>(rt: &R, dir: &str) -> Result<(), Fault> 
     match fs::read_dir(&(rt, &alloc), dir) {
         Ok(mut entries) => match entries.next() {
             None => Ok(()),
-            Some(_) => Err(Fault::of(alloc, Sentence::Occupied { path: dir })),
+            Some(_) => Err(occupied(alloc, dir)),
         },
         Err(error) if error.kind() == ErrorKind::NotFound => Ok(()),
-        Err(error) if error.kind() == ErrorKind::NotADirectory => {
-            Err(Fault::of(alloc, Sentence::Occupied { path: dir }))
-        }
+        Err(error) if error.kind() == ErrorKind::NotADirectory => Err(occupied(alloc, dir)),
         Err(error) => Err(open_fault(alloc, dir, &error)),
     }
+}
+
+// Returns the fault for a path that exists and is not an empty directory.
+fn occupied(alloc: Global, dir: &str) -> Fault {
+    Fault::of(
+        alloc,
+        Sentence::Named {
+            name: dir,
+            words: OCCUPIED,
+        },
+    )
 }
 
 fn prefixes(alloc: Global) -> Result<Vec<Prefix>, Fault> {
@@ -236,20 +251,19 @@ where
     R: Files + AllocGlobal + Net,
     E: Write,
 {
-    let alloc = rt.alloc();
     let ServerRefs { head, tips } = server;
-    let specs = specs(alloc, head)?;
-    let found = Directories::of_bare(alloc, dir)?;
+    let specs = specs(rt.alloc(), head)?;
+    let found = Directories::of_bare(rt.alloc(), dir)?;
     let wanted = Wanted {
         remote,
+        found: &found,
         specs: specs.as_slice(),
         tips,
         head_ref: HEAD_REF,
-        path: dir,
     };
-    match make(rt, dir, remote, head)? {
-        Ok(new) => fill(rt, &found, new, wanted, progress),
-        Err(fault) => Err(make_fault(alloc, dir, &fault)),
+    match make(rt, dir, remote, head) {
+        Ok(new) => fill(rt, new, wanted, progress),
+        Err(fault) => Err(fault),
     }
 }
 
@@ -262,41 +276,46 @@ fn make_fault(alloc: Global, dir: &str, fault: &RepositoryFault<Global>) -> Faul
                 cause: Cause::Exists,
                 ..
             },
-        ) => Fault::of(alloc, Sentence::Occupied { path: dir }),
+        ) => occupied(alloc, dir),
         _ => repository_fault(alloc, dir, fault),
     }
 }
 
-// Creates the repository, with a HEAD that points at a branch. The outer result fails only if out
-// of memory.
+// Creates the repository, with a HEAD that points at a branch.
 fn make<'r, R: Files + AllocGlobal>(
     rt: &'r R,
     dir: &'r str,
     remote: &Remote,
     head: &ServerHead,
-) -> Result<Result<NewRepository<'r, R, Global>, RepositoryFault<Global>>, Fault> {
-    let alloc = rt.alloc();
-    let branch = match head {
-        ServerHead::Branch(target) => target.copy_in(alloc)?,
-        ServerHead::Detached => default_target(alloc)?,
-    };
-    Ok(NewRepository::make(alloc, rt, dir, remote.url.as_str(), &branch))
+) -> Result<NewRepository<'r, R, Global>, Fault> {
+    let branch = branch_in(rt.alloc(), head)?;
+    match NewRepository::make(rt.alloc(), rt, dir, remote.url.as_str(), &branch) {
+        Ok(new) => Ok(new),
+        Err(fault) => Err(make_fault(rt.alloc(), dir, &fault)),
+    }
+}
+
+// Returns the branch that HEAD points at, or the default branch if HEAD is detached.
+fn branch_in(alloc: Global, head: &ServerHead) -> Result<Target<Global>, Fault> {
+    match head {
+        ServerHead::Branch(target) => Ok(target.copy_in(alloc)?),
+        ServerHead::Detached => default_target(alloc),
+    }
 }
 
 // Fetches into the new repository, and installs the pack and the refs.
 fn fill<'r, R, E>(
     rt: &'r R,
-    found: &'r Directories,
     new: NewRepository<'r, R, Global>,
-    wanted: Wanted<'_>,
+    wanted: Wanted<'r>,
     progress: &mut Progress<'_, E>,
 ) -> Result<(), Fault>
 where
     R: Files + AllocGlobal + Net,
     E: Write,
 {
-    match receive(rt, found, wanted, progress) {
-        Ok(fetch) => keep(rt.alloc(), found, new, fetch),
+    match receive(rt, wanted, progress) {
+        Ok(fetch) => keep(rt.alloc(), wanted.found, new, fetch),
         Err(fault) => Err(fault),
     }
 }

@@ -3,10 +3,11 @@
 use crate::directory::Directories;
 use gclient::{Ask, Asks, Fetched, RefUpdate, Settled, Spec};
 use ggraph::Refs;
-use gitobjects::{QuickReader, StoredFiles};
+use gitobjects::{ObjectFiles, QuickReader, StoredFiles};
 use gitrepository::{RepositoryFault, check_form};
 use glsreply::{LsReply, RefLine};
-use std::alloc::Global;
+use gname::Oid;
+use std::alloc::{AllocError, Global};
 use std::rt::Files;
 
 /// Returns the report of a fetch if each destination ref is already up to date and its object
@@ -25,24 +26,85 @@ where
     if listed.unborn().is_some() {
         return Ok(None);
     }
-    let alloc = rt.alloc();
-    let Some(asks) = asks_of(alloc, specs, listed)? else {
-        return Ok(None);
-    };
-    let files = StoredFiles::new(rt);
-    let path = found.common.as_str();
-    check_form(&files, alloc, path)?;
-    let (refs, _head) = found.refs(alloc, rt).read_refs()?;
-    if !are_current(&asks, &refs) {
-        return Ok(None);
+    match asks_of(rt.alloc(), specs, listed)? {
+        Some(asks) => report_if_current(rt, found, asks),
+        None => Ok(None),
     }
-    let mut reader = QuickReader::open(&files, alloc, path)?;
-    for id in &asks.ids(alloc)? {
+}
+
+// Returns the report of a fetch that requests these updates, or `None` if a ref or an object is
+// missing.
+fn report_if_current<R>(
+    rt: &R,
+    found: &Directories,
+    asks: Asks<Global>,
+) -> Result<Option<Fetched<Global>>, RepositoryFault<Global>>
+where
+    R: Files + AllocGlobal,
+{
+    if has_asked(rt, found, &asks)? {
+        report_of(rt.alloc(), asks)
+    } else {
+        Ok(None)
+    }
+}
+
+// Returns whether each destination ref already has its requested id, and each of these objects
+// exists.
+fn has_asked<R>(
+    rt: &R,
+    found: &Directories,
+    asks: &Asks<Global>,
+) -> Result<bool, RepositoryFault<Global>>
+where
+    R: Files + AllocGlobal,
+{
+    let files = StoredFiles::new(rt);
+    check_form(&files, rt.alloc(), found.common.as_str())?;
+    if has_refs(rt, found, asks)? {
+        has_objects(rt.alloc(), &files, found, asks)
+    } else {
+        Ok(false)
+    }
+}
+
+// Returns whether each destination ref already has its requested id.
+fn has_refs<R>(
+    rt: &R,
+    found: &Directories,
+    asks: &Asks<Global>,
+) -> Result<bool, RepositoryFault<Global>>
+where
+    R: Files + AllocGlobal,
+{
+    match found.refs(rt.alloc(), rt).read_refs() {
+        Ok((refs, _head)) => Ok(are_current(asks, &refs)),
+        Err(fault) => Err(RepositoryFault::from(fault)),
+    }
+}
+
+// Returns whether each requested object exists.
+fn has_objects<F: ObjectFiles>(
+    alloc: Global,
+    files: &F,
+    found: &Directories,
+    asks: &Asks<Global>,
+) -> Result<bool, RepositoryFault<Global>> {
+    let mut reader = QuickReader::open(files, alloc, found.common.as_str())?;
+    let ids = asks.ids(alloc)?;
+    Ok(holds_all(&mut reader, ids.as_slice())?)
+}
+
+fn holds_all<F: ObjectFiles>(
+    reader: &mut QuickReader<'_, F, Global>,
+    ids: &[Oid],
+) -> Result<bool, AllocError> {
+    for id in ids {
         if !reader.holds(id)? {
-            return Ok(None);
+            return Ok(false);
         }
     }
-    Ok(Some(report_of(alloc, asks)?))
+    Ok(true)
 }
 
 // Returns the ref updates that the refspecs request, in the order in which a fetch applies them.
@@ -113,12 +175,12 @@ fn are_current(asks: &Asks<Global>, refs: &Refs<Global>) -> bool {
 fn report_of(
     alloc: Global,
     asks: Asks<Global>,
-) -> Result<Fetched<Global>, RepositoryFault<Global>> {
+) -> Result<Option<Fetched<Global>>, RepositoryFault<Global>> {
     let mut updates = Vec::new(alloc);
     updates.resize(asks.len(), RefUpdate::Same)?;
-    Ok(Fetched {
+    Ok(Some(Fetched {
         settled: Settled { asks, updates },
         requests: 0,
         unborn: None,
-    })
+    }))
 }

@@ -1,7 +1,7 @@
 //! Finding the repository at a path.
 
 use crate::fault::Fault;
-use crate::sentences::Sentence;
+use crate::sentences::{NO_REPOSITORY, Sentence};
 use gitobjects::StoredFiles;
 use gitrefs::{GitDirectory, parse_common_dir, parse_git_file};
 use gitrepository::is_bare;
@@ -18,7 +18,7 @@ const EXPORT_OK: &str = "git-daemon-export-ok";
 const MAX_POINTER: u64 = 65_536;
 
 /// The directories of a repository (gitrepository-layout(5)).
-#[derive(Debug, Drop)]
+#[derive(Drop)]
 pub(crate) struct Directories {
     /// The Git directory, which contains HEAD.
     pub(crate) own: String,
@@ -82,13 +82,24 @@ where
     R: Files + AllocGlobal,
 {
     for ending in Ending::in_order() {
-        let mut candidate = String::from_str(rt.alloc(), path)?;
-        candidate.push_str(ending.text())?;
+        let candidate = with_ending(rt.alloc(), path, ending)?;
         if let Some(found) = repository_at(rt, candidate)? {
             return Ok(found);
         }
     }
-    Err(Fault::of(rt.alloc(), Sentence::NoRepository { path }))
+    Err(Fault::of(
+        rt.alloc(),
+        Sentence::Named {
+            name: path,
+            words: NO_REPOSITORY,
+        },
+    ))
+}
+
+fn with_ending(alloc: Global, path: &str, ending: Ending) -> Result<String, AllocError> {
+    let mut candidate = String::from_str(alloc, path)?;
+    candidate.push_str(ending.text())?;
+    Ok(candidate)
 }
 
 /// The repositories that a server may serve.
@@ -114,13 +125,23 @@ where
         return Ok(None);
     };
     for ending in Ending::in_order() {
-        let relative = path.candidate(rt.alloc(), ending)?;
-        let candidate = below(rt.alloc(), exports.base, relative.as_str())?;
+        let candidate = served_candidate(rt.alloc(), exports.base, &path, ending)?;
         if let Some(found) = repository_at(rt, candidate)? {
             return exported_repository(rt, exports, found);
         }
     }
     Ok(None)
+}
+
+// Returns the path below the base directory that a client's path names with this ending.
+fn served_candidate(
+    alloc: Global,
+    base: &str,
+    path: &ServedPath<'_>,
+    ending: Ending,
+) -> Result<String, AllocError> {
+    let relative = path.candidate(alloc, ending)?;
+    below(alloc, base, relative.as_str())
 }
 
 fn served_path(path: &[u8]) -> Option<ServedPath<'_>> {
@@ -202,12 +223,19 @@ fn is_named_git(path: &str) -> bool {
 // Returns the common directory of a Git directory, or `None` if its file `commondir` is malformed.
 fn common_of<R: Files + AllocGlobal>(rt: &R, own: &str) -> Result<Option<String>, Fault> {
     let path = below(rt.alloc(), own, "commondir")?;
-    match read_pointer(rt, path.as_str())? {
+    let pointer = read_pointer(rt, path.as_str())?;
+    Ok(common_from(rt.alloc(), own, &pointer)?)
+}
+
+// Returns the common directory of a Git directory, given the result of looking up its file
+// `commondir`.
+fn common_from(alloc: Global, own: &str, pointer: &Pointer) -> Result<Option<String>, AllocError> {
+    match pointer {
         Pointer::File(text) => match parse_common_dir(text.as_slice()) {
-            Some(target) => Ok(target_path(rt.alloc(), own, target)?),
+            Some(target) => target_path(alloc, own, target),
             None => Ok(None),
         },
-        _ => Ok(Some(String::from_str(rt.alloc(), own)?)),
+        _ => Ok(Some(String::from_str(alloc, own)?)),
     }
 }
 
@@ -279,7 +307,14 @@ fn exists<R: Files + AllocGlobal>(rt: &R, directory: &str, name: &str) -> Result
 
 /// Returns the fault for a file that the system cannot open.
 pub(crate) fn open_fault(alloc: Global, path: &str, error: &io::Error) -> Fault {
-    Fault::of(alloc, Sentence::Open { path, error })
+    Fault::of(
+        alloc,
+        Sentence::System {
+            call: "open ",
+            name: path,
+            error,
+        },
+    )
 }
 
 // Returns whether an error means that the file does not exist.

@@ -13,7 +13,9 @@ use crate::opening::{open_client, repository_fault};
 use crate::output::Output;
 use crate::progress::{Progress, Watched};
 use crate::remote::{Remote, tips_of};
-use crate::sentences::Sentence;
+use crate::sentences::{
+    CHECKED_OUT, NO_COMMIT, NO_FILE_NAME, NO_HEAD_COMMIT, NOT_FORWARD, Sentence,
+};
 use gclient::{
     ClientFault, FetchFault, Fetched, GitFetch, MAX_SPECS, PackOptions, RefUpdate, Repo, Spec,
     fetch_git,
@@ -53,14 +55,14 @@ const BRANCHES: &[u8] = b"refs/heads/";
 pub(crate) struct Wanted<'a> {
     /// The server's repository.
     pub(crate) remote: &'a Remote,
+    /// The directories of the client's repository.
+    pub(crate) found: &'a Directories,
     /// The refspecs.
     pub(crate) specs: &'a [Spec<Global>],
     /// The ids of the server's refs.
     pub(crate) tips: &'a Tips<Global>,
     /// The name of the temporary ref for the HEAD of a clone, or an empty slice for a fetch.
     pub(crate) head_ref: &'a [u8],
-    /// The path of the client's repository.
-    pub(crate) path: &'a str,
 }
 
 /// A client's repository, and its refs before the fetch.
@@ -106,6 +108,25 @@ struct Report {
     is_terminal: bool,
 }
 
+// The two repositories of a fetch, and its refspecs.
+#[derive(Clone, Copy)]
+struct Endpoints<'a> {
+    // The server's repository.
+    remote: &'a Remote,
+    // The directories of the client's repository.
+    found: &'a Directories,
+    specs: &'a [Spec<Global>],
+}
+
+// The result of comparing the refs of the server and the client.
+#[derive(Drop)]
+enum Comparison {
+    // All refs are already up to date. This is the report of the fetch.
+    UpToDate(Fetched<Global>),
+    // A ref is not up to date. These are the ids of the server's refs.
+    Outdated(Tips<Global>),
+}
+
 /// Fetches refs into a repository, and prints the result for each ref. On a terminal, non-printable
 /// bytes of ref names are replaced.
 pub(crate) fn fetch_remote<R, E>(
@@ -120,43 +141,89 @@ where
 {
     let found = find_repository(rt, args.dir)?;
     let remote = Remote::new(rt.alloc(), &args.url)?;
+    let ends = Endpoints {
+        remote: &remote,
+        found: &found,
+        specs: args.specs.as_slice(),
+    };
     let report = Report {
         is_quiet: args.verbosity.quiet,
         is_terminal,
     };
-    let tips = {
-        let listed = list_sources(rt, &remote, args.specs.as_slice())?;
-        if let Some(fetched) = find_current(rt, &found, args.specs.as_slice(), &listed)? {
-            return report_unless(rt, report, &fetched);
-        }
-        tips_of(rt.alloc(), &listed)?
-    };
-    let wanted = Wanted {
-        remote: &remote,
-        specs: args.specs.as_slice(),
-        tips: &tips,
-        head_ref: b"",
-        path: found.common.as_str(),
-    };
     let mut progress = progress_of(rt.alloc(), args.verbosity, errors);
-    fetch_found(rt, &found, report, wanted, &mut progress)
+    fetch_between(rt, ends, report, &mut progress)
 }
 
-// Fetches refs into the repository in these directories, and prints the result for each ref.
-fn fetch_found<'r, R, E>(
-    rt: &'r R,
-    found: &'r Directories,
+// Fetches refs from one repository into another, and prints the result for each ref.
+fn fetch_between<R, E>(
+    rt: &R,
+    ends: Endpoints<'_>,
     report: Report,
-    wanted: Wanted<'_>,
     progress: &mut Progress<'_, E>,
 ) -> Result<(), Fault>
 where
     R: Files + Print + AllocGlobal + Net,
     E: Write,
 {
-    let outcome = receive(rt, found, wanted, progress);
+    match list_and_compare(rt, ends)? {
+        Comparison::UpToDate(fetched) => report_unless(rt, report, &fetched),
+        Comparison::Outdated(tips) => fetch_tips(rt, ends, report, &tips, progress),
+    }
+}
+
+// Lists the server's refs, and compares them with the client's refs. The names of the server's refs
+// can use much memory, so this function drops them.
+fn list_and_compare<R>(rt: &R, ends: Endpoints<'_>) -> Result<Comparison, Fault>
+where
+    R: Files + AllocGlobal + Net,
+{
+    match list_sources(rt, ends.remote, ends.specs) {
+        Ok(listed) => compare(rt, ends, &listed),
+        Err(fault) => Err(fault),
+    }
+}
+
+fn compare<R>(rt: &R, ends: Endpoints<'_>, listed: &LsReply<Global>) -> Result<Comparison, Fault>
+where
+    R: Files + AllocGlobal,
+{
+    match fetched_already(rt, ends.found, ends.specs, listed) {
+        Ok(Some(fetched)) => Ok(Comparison::UpToDate(fetched)),
+        Ok(None) => Ok(Comparison::Outdated(tips_of(rt.alloc(), listed)?)),
+        Err(fault) => Err(repository_fault(rt.alloc(), ends.found.common.as_str(), &fault)),
+    }
+}
+
+// Fetches refs from a server whose refs have the ids in `tips`, and prints the result for each ref.
+fn fetch_tips<'r, R, E>(
+    rt: &'r R,
+    ends: Endpoints<'r>,
+    report: Report,
+    tips: &'r Tips<Global>,
+    progress: &mut Progress<'_, E>,
+) -> Result<(), Fault>
+where
+    R: Files + Print + AllocGlobal + Net,
+    E: Write,
+{
+    let Endpoints {
+        remote,
+        found,
+        specs,
+    } = ends;
+    let wanted = Wanted {
+        remote,
+        found,
+        specs,
+        tips,
+        head_ref: b"",
+    };
+    let outcome = receive(rt, wanted, progress);
     progress.finish();
-    conclude(rt, found, report, outcome)
+    match outcome {
+        Ok(fetch) => conclude(rt, found, report, fetch),
+        Err(fault) => Err(fault),
+    }
 }
 
 // Returns the server's refs whose names begin with a prefix of a refspec. The server may also list
@@ -195,45 +262,35 @@ fn prefixes_of(
     Ok(prefixes)
 }
 
-// Returns the report of the fetch if all refs are already up to date, and `None` otherwise.
-fn find_current<R>(
-    rt: &R,
-    found: &Directories,
-    specs: &[Spec<Global>],
-    listed: &LsReply<Global>,
-) -> Result<Option<Fetched<Global>>, Fault>
-where
-    R: Files + AllocGlobal,
-{
-    match fetched_already(rt, found, specs, listed) {
-        Ok(fetched) => Ok(fetched),
-        Err(fault) => Err(repository_fault(rt.alloc(), found.common.as_str(), &fault)),
-    }
-}
-
 // Installs the pack, updates the refs, and prints the report.
 fn conclude<'r, R>(
     rt: &'r R,
     found: &Directories,
     report: Report,
-    outcome: Result<StoredFetch<'r, R>, Fault>,
+    fetch: StoredFetch<'r, R>,
 ) -> Result<(), Fault>
 where
     R: Files + Print + AllocGlobal,
 {
-    match outcome {
-        Ok(fetch) => {
-            let Fetch {
-                client,
-                fetched,
-                received,
-            } = fetch;
-            keep(rt, found, &client, received)?;
-            report_unless(rt, report, &fetched)?;
-            check_moved(rt.alloc(), &fetched)
-        }
+    let Fetch {
+        client,
+        fetched,
+        received,
+    } = fetch;
+    match keep(rt, found, &client, received) {
+        Ok(()) => report_moves(rt, report, &fetched),
         Err(fault) => Err(fault),
     }
+}
+
+// Prints the result for each ref. Fails if an update was rejected.
+fn report_moves<R: Print + AllocGlobal>(
+    rt: &R,
+    report: Report,
+    fetched: &Fetched<Global>,
+) -> Result<(), Fault> {
+    report_unless(rt, report, fetched)?;
+    check_moved(rt.alloc(), fetched)
 }
 
 /// Returns a `Progress` for a fetch.
@@ -292,13 +349,31 @@ fn keep<'r, R: Files + AllocGlobal>(
     client: &Client,
     received: Option<StoredReceived<'r, R>>,
 ) -> Result<(), Fault> {
-    let updates = updates_of(rt.alloc(), &client.before, client.repo.refs())?;
-    check_head(rt, found, updates.as_slice())?;
-    check_names(rt.alloc(), updates.as_slice())?;
-    match install_and_move(rt, found, received, updates.as_slice()) {
-        Ok(()) => Ok(()),
-        Err(fault) => Err(repository_fault(rt.alloc(), found.common.as_str(), &fault)),
+    match checked_updates(rt, found, client) {
+        Ok(updates) => install(rt, found, received, updates.as_slice()),
+        Err(fault) => Err(fault),
     }
+}
+
+// Returns the refs that the fetch changes. Fails if one of them is checked out, or has no file
+// name.
+fn checked_updates<R: Files + AllocGlobal>(
+    rt: &R,
+    found: &Directories,
+    client: &Client,
+) -> Result<Vec<RefMove>, Fault> {
+    let updates = updates_of(rt.alloc(), &client.before, client.repo.refs())?;
+    check_updates(rt, found, updates.as_slice())?;
+    Ok(updates)
+}
+
+fn check_updates<R: Files + AllocGlobal>(
+    rt: &R,
+    found: &Directories,
+    updates: &[RefMove],
+) -> Result<(), Fault> {
+    check_head(rt, found, updates)?;
+    check_names(rt.alloc(), updates)
 }
 
 // Fails if an update would change the checked-out branch of a work tree (git-fetch(1),
@@ -331,8 +406,9 @@ fn check_branch(alloc: Global, branch: &RefName<Global>, updates: &[RefMove]) ->
     if updates.iter().any(|update| update.name == *branch) {
         return Err(Fault::of(
             alloc,
-            Sentence::CheckedOut {
+            Sentence::Ref {
                 name: branch.as_bytes(),
+                words: CHECKED_OUT,
             },
         ));
     }
@@ -344,28 +420,51 @@ fn check_names(alloc: Global, updates: &[RefMove]) -> Result<(), Fault> {
     for update in updates {
         let name = update.name.as_bytes();
         if str::from_utf8(name).is_err() {
-            return Err(Fault::of(alloc, Sentence::NoFileName { name }));
+            return Err(Fault::of(
+                alloc,
+                Sentence::Ref {
+                    name,
+                    words: NO_FILE_NAME,
+                },
+            ));
         }
     }
     Ok(())
 }
 
-fn install_and_move<'r, R: Files + AllocGlobal>(
+fn install<'r, R: Files + AllocGlobal>(
     rt: &'r R,
     found: &Directories,
     received: Option<StoredReceived<'r, R>>,
     updates: &[RefMove],
-) -> Result<(), RepositoryFault<Global>> {
-    let alloc = rt.alloc();
-    match received {
-        Some(received) => {
-            found.refs(alloc, rt).check_updates(updates)?;
-            let _kept = install_pack(alloc, rt, found.common.as_str(), received)?;
-            found.refs(alloc, rt).update_refs(updates)?;
-        }
-        None => found.refs(alloc, rt).update_refs(updates)?,
+) -> Result<(), Fault> {
+    let installed = match received {
+        Some(received) => install_and_move(rt, found, received, updates),
+        None => move_refs(rt, found, updates),
+    };
+    match installed {
+        Ok(()) => Ok(()),
+        Err(fault) => Err(repository_fault(rt.alloc(), found.common.as_str(), &fault)),
     }
-    Ok(())
+}
+
+fn install_and_move<'r, R: Files + AllocGlobal>(
+    rt: &'r R,
+    found: &Directories,
+    received: StoredReceived<'r, R>,
+    updates: &[RefMove],
+) -> Result<(), RepositoryFault<Global>> {
+    found.refs(rt.alloc(), rt).check_updates(updates)?;
+    let _kept = install_pack(rt.alloc(), rt, found.common.as_str(), received)?;
+    move_refs(rt, found, updates)
+}
+
+fn move_refs<R: Files + AllocGlobal>(
+    rt: &R,
+    found: &Directories,
+    updates: &[RefMove],
+) -> Result<(), RepositoryFault<Global>> {
+    Ok(found.refs(rt.alloc(), rt).update_refs(updates)?)
 }
 
 // Returns the refs that the fetch changes.
@@ -394,8 +493,13 @@ fn check_moved(alloc: Global, fetched: &Fetched<Global>) -> Result<(), Fault> {
     for (index, update) in settled.updates.iter().enumerate() {
         if let RefUpdate::NotForward = update {
             if let Some((name, _id)) = settled.asks.at(index) {
-                let name = name.as_bytes();
-                return Err(Fault::of(alloc, Sentence::NotForward { name }));
+                return Err(Fault::of(
+                    alloc,
+                    Sentence::Ref {
+                        name: name.as_bytes(),
+                        words: NOT_FORWARD,
+                    },
+                ));
             }
         }
     }
@@ -439,8 +543,7 @@ fn print_report<R: Print + AllocGlobal>(
 /// file of the pack, and creates the folder of this file if necessary.
 pub(crate) fn receive<'r, R, E>(
     rt: &'r R,
-    found: &'r Directories,
-    wanted: Wanted<'_>,
+    wanted: Wanted<'r>,
     progress: &mut Progress<'_, E>,
 ) -> Result<StoredFetch<'r, R>, Fault>
 where
@@ -448,11 +551,11 @@ where
     E: Write,
 {
     let files = StoredFiles::new(rt);
-    match open_client(rt.alloc(), rt, &files, found, wanted.tips) {
+    match open_client(rt.alloc(), rt, &files, wanted.found, wanted.tips) {
         Ok((repository, reader)) => {
-            let spools = StoredSpools::new(rt.alloc(), rt, found.common.as_str());
+            let spools = StoredSpools::new(rt.alloc(), rt, wanted.found.common.as_str());
             let mut indexer = StoreIndexer::new(reader, wanted.tips, spools);
-            receive_with(rt, found, repository, &mut indexer, wanted, progress)
+            receive_with(rt, repository, &mut indexer, wanted, progress)
         }
         Err(fault) => Err(fault),
     }
@@ -462,7 +565,6 @@ where
 // the repository gains is an object of this pack, or one of its prerequisites.
 fn receive_with<'r, R, E>(
     rt: &'r R,
-    found: &Directories,
     repository: Repository<Global>,
     indexer: &mut StoredIndexer<'_, '_, 'r, R>,
     wanted: Wanted<'_>,
@@ -477,7 +579,7 @@ where
     ensures keeps { IfOk result (λ fetch. KeepsOn (IsKeptBy indexer.old.received)
         (IsKeptBy fetch.received) repository.graph.entries fetch.client.repo.graph.entries) }
 {
-    match make_client(rt.alloc(), found, repository) {
+    match make_client(rt.alloc(), wanted.found, repository) {
         Ok(client) => receive_into(rt, client, indexer, wanted, progress),
         Err(fault) => Err(fault),
     }
@@ -556,7 +658,13 @@ fn check_commits<R: Files>(
         }
         let name = pair.0.as_bytes();
         if name.starts_with(BRANCHES) && !is_commit(alloc, wanted.remote, indexer, &pair.1)? {
-            return Err(Fault::of(alloc, Sentence::NoCommit { name }));
+            return Err(Fault::of(
+                alloc,
+                Sentence::Ref {
+                    name,
+                    words: NO_COMMIT,
+                },
+            ));
         }
         if name == wanted.head_ref {
             check_head_commit(alloc, wanted.remote, client, indexer, &pair.1)?;
@@ -577,8 +685,13 @@ fn check_head_commit<R: Files>(
     if is_commit(alloc, remote, indexer, &id)? {
         return Ok(());
     }
-    let url = remote.url.as_str();
-    Err(Fault::of(alloc, Sentence::NoHeadCommit { url }))
+    Err(Fault::of(
+        alloc,
+        Sentence::Named {
+            name: remote.url.as_str(),
+            words: NO_HEAD_COMMIT,
+        },
+    ))
 }
 
 // Returns whether an object, received or already present, is a commit.
@@ -612,7 +725,7 @@ where
 {
     let stream = wanted.remote.connect(rt, rt.alloc())?;
     let peer = Peer::new(stream, Silence);
-    match converse_with(rt.alloc(), &peer, repo, indexer, wanted, progress) {
+    match converse_with(&peer, repo, indexer, wanted, progress) {
         Ok(fetched) => Ok(fetched),
         Err(fault) => Err(fetch_fault(rt.alloc(), wanted, indexer, &fault)),
     }
@@ -626,7 +739,9 @@ fn fetch_fault<R: Files>(
     fault: &FetchFault<Global>,
 ) -> Fault {
     match indexer.take_fault() {
-        Some(cause) if cause.is_of_spool() => repository_fault(alloc, wanted.path, &cause),
+        Some(cause) if cause.is_of_spool() => {
+            repository_fault(alloc, wanted.found.common.as_str(), &cause)
+        }
         Some(cause) => refused_pack(alloc, wanted.remote, &cause),
         None => wanted.remote.fault(alloc, fault),
     }
@@ -640,7 +755,6 @@ fn refused_pack(alloc: Global, remote: &Remote, fault: &RepositoryFault<Global>)
 // Performs a fetch over a buffered connection. The function has a type parameter for the indexer,
 // because the prover does not accept a direct call with the lifetimes of a `StoredIndexer`.
 fn converse_with<S, E, K>(
-    alloc: Global,
     peer: &Peer<S, Silence>,
     repo: &mut Repo<Global>,
     indexer: &mut K,
@@ -655,6 +769,7 @@ where
     ensures keeps { KeepsOn (K.keeps indexer.old) (K.keeps indexer.new) repo.old.graph.entries
         repo.new.graph.entries }
 {
+    let alloc = progress.allocator();
     let fetch = fetch_of(wanted, progress.is_shown());
     let Ok(mut reader) = BufReader::with_capacity(alloc, BUFFER, Watched::new(peer, progress))
     else {
@@ -663,12 +778,31 @@ where
     let Ok(mut writer) = BufWriter::with_capacity(alloc, BUFFER, peer) else {
         return Err(FetchFault::NoBuffer);
     };
-    let mut source = FromRead::new(&mut reader);
-    let mut sink = ToWrite::new(&mut writer);
-    let fetched = fetch_git(repo, &mut source, &mut sink, indexer, &fetch);
+    let fetched = converse_over(&mut reader, &mut writer, repo, indexer, &fetch);
     // Bytes in the buffer that could not be written are dropped.
     let (_peer, _unwritten) = writer.into_parts();
     fetched
+}
+
+// Performs a fetch. The indexer keeps each object that the repository gains.
+fn converse_over<D, W, K>(
+    reader: &mut D,
+    writer: &mut W,
+    repo: &mut Repo<Global>,
+    indexer: &mut K,
+    fetch: &GitFetch<'_, Global>,
+) -> Result<Fetched<Global>, FetchFault<Global>>
+where
+    D: Read,
+    W: Write,
+    K: KeepingIndexer<Global>,
+    ensures grows { Grows repo.old.graph.entries repo.new.graph.entries }
+    ensures keeps { KeepsOn (K.keeps indexer.old) (K.keeps indexer.new) repo.old.graph.entries
+        repo.new.graph.entries }
+{
+    let mut source = FromRead::new(reader);
+    let mut sink = ToWrite::new(writer);
+    fetch_git(repo, &mut source, &mut sink, indexer, fetch)
 }
 
 // Returns the parameters of the fetch, which allow offset deltas in the pack.

@@ -21,6 +21,20 @@ struct CachedRepository {
 }
 
 impl CachedRepository {
+    // Returns the entry for a repository.
+    fn of<D>(shared: &Shared<'_, D>) -> Result<CachedRepository, AllocError> {
+        let loaded = shared.loaded.clone()?;
+        let objects = match &shared.objects {
+            Some(ticket) => Rc::downgrade(ticket)?,
+            None => Weak::new(),
+        };
+        Ok(CachedRepository {
+            loaded,
+            objects,
+            changed: shared.changed,
+        })
+    }
+
     fn path(&self) -> &str {
         self.loaded.found.own.as_str()
     }
@@ -65,22 +79,19 @@ impl RepositoryCache {
     /// drops the oldest repositories. Fails only if out of memory. After a failure the cache has no
     /// entry for this Git directory.
     pub(crate) fn put<D>(&mut self, shared: &Shared<'_, D>) -> Result<(), AllocError> {
-        let path = shared.loaded.found.own.as_str();
-        if let Some(index) = self.entries.iter().position(|entry| entry.path() == path) {
-            let _old = self.entries.remove(index);
-        }
+        self.remove(shared.loaded.found.own.as_str());
         self.make_room(nodes_of(&shared.loaded));
-        let entry = CachedRepository {
-            loaded: shared.loaded.clone()?,
-            objects: match &shared.objects {
-                Some(ticket) => Rc::downgrade(ticket)?,
-                None => Weak::new(),
-            },
-            changed: shared.changed,
-        };
+        let entry = CachedRepository::of(shared)?;
         match self.entries.push(entry) {
             Ok(()) => Ok(()),
             Err(_) => Err(AllocError),
+        }
+    }
+
+    // Removes the entry with this Git directory, if there is one.
+    fn remove(&mut self, path: &str) {
+        if let Some(index) = self.entries.iter().position(|entry| entry.path() == path) {
+            let _old = self.entries.remove(index);
         }
     }
 

@@ -21,12 +21,19 @@ pub(crate) fn list_refs<R>(rt: &R, args: &LsArgs<'_>, is_terminal: bool) -> Resu
 where
     R: Print + AllocGlobal + Net,
 {
-    let alloc = rt.alloc();
-    let remote = Remote::new(alloc, &args.url)?;
-    let prefixes = args.prefixes.as_slice();
-    let reply = remote.list(rt, alloc, prefixes_to_ask(prefixes))?;
-    let text = reply_text(alloc, &reply, prefixes)?;
+    let remote = Remote::new(rt.alloc(), &args.url)?;
+    let text = list_text(rt, &remote, args.prefixes.as_slice())?;
     print_peer(rt, is_terminal, text.as_slice())
+}
+
+// Requests the refs of a server, and returns their lines.
+fn list_text<R: AllocGlobal + Net>(
+    rt: &R,
+    remote: &Remote,
+    prefixes: &[Prefix<Global>],
+) -> Result<Vec<u8>, Fault> {
+    let reply = remote.list(rt, rt.alloc(), prefixes_to_ask(prefixes))?;
+    Ok(reply_text(rt.alloc(), &reply, prefixes)?)
 }
 
 // Returns the prefixes to request, or no prefixes if there are too many for one request. A request

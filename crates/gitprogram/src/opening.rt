@@ -5,7 +5,7 @@ ghost use Rattle.gitprogram.specs.Sharing.{server_in};
 
 use crate::directory::Directories;
 use crate::fault::Fault;
-use crate::sentences::Sentence;
+use crate::sentences::{Sentence, TOO_MANY_OPEN};
 use ganswer::Server;
 use ggraph::{Head, Refs, Repository};
 use gitobjects::{ObjectFiles, ObjectReader, StoreFault};
@@ -39,7 +39,7 @@ impl NotOpened {
     /// Returns the fault for too many open repositories.
     pub(crate) fn busy(alloc: Global) -> NotOpened {
         NotOpened {
-            fault: Fault::of(alloc, Sentence::Busy),
+            fault: Fault::of(alloc, Sentence::Text(TOO_MANY_OPEN)),
             form: None,
             is_busy: true,
         }
@@ -150,17 +150,26 @@ fn read_for_ls_refs<F: ObjectFiles>(
 ) -> Result<Opened, RepositoryFault<Global>> {
     let Listed { found: listed } = listed;
     let path = found.common.as_str();
-    if let Some(tips) = open_tips(files, alloc, path, &listed)? {
-        return Ok(Opened::Tips(tips));
+    match open_tips(files, alloc, path, &listed)? {
+        Some(tips) => Ok(Opened::Tips(tips)),
+        None => Ok(Opened::Whole(open_whole(alloc, files, path, listed)?)),
     }
+}
+
+// Opens the repository at `path`, and returns the history of these refs and this HEAD.
+fn open_whole<F: ObjectFiles>(
+    alloc: Global,
+    files: &F,
+    path: &str,
+    listed: PeeledRefs,
+) -> Result<Repository<Global>, RepositoryFault<Global>> {
     let mut reader = open_reader(alloc, files, path)?;
     let PeeledRefs {
         refs,
         head,
         peels: _peels,
     } = listed;
-    let whole = read_history(files, path, &mut reader, &refs, head)?;
-    Ok(Opened::Whole(whole))
+    read_history(files, path, &mut reader, &refs, head)
 }
 
 fn is_same_head(one: &Head<Global>, other: &Head<Global>) -> bool {
@@ -206,9 +215,19 @@ fn find_whole<'f, F: ObjectFiles>(
 ) -> Result<(Repository<Global>, Reader<'f, F>), RepositoryFault<Global>> {
     let path = found.common.as_str();
     let mut reader = open_reader(alloc, files, path)?;
-    let head = tips.head().copy_in(alloc)?;
-    let whole = read_history(files, path, &mut reader, tips.refs(), head)?;
+    let whole = read_whole(files, path, &mut reader, tips)?;
     Ok((whole, reader))
+}
+
+// Returns the history of the refs and HEAD in `tips`.
+fn read_whole<F: ObjectFiles>(
+    files: &F,
+    path: &str,
+    reader: &mut Reader<'_, F>,
+    tips: &Server<Global>,
+) -> Result<Repository<Global>, RepositoryFault<Global>> {
+    let head = tips.head().copy_in(reader.store().allocator())?;
+    read_history(files, path, reader, tips.refs(), head)
 }
 
 // Returns the history that is reachable from refs and HEAD. Fails if the object of a ref is
@@ -297,25 +316,35 @@ fn open_with_leaves<'f, R: Files, F: ObjectFiles>(
     found: &Directories,
     tips: &Tips<Global>,
 ) -> Result<(Repository<Global>, Reader<'f, F>), RepositoryFault<Global>> {
-    let (mut repository, mut reader) = open(alloc, rt, files, found)?;
-    add_leaves(&mut reader, &mut repository.graph, tips)?;
-    let more = tips.as_slice().len();
-    repository.refs = lead_with_newest(&repository.graph, &repository.refs, more)?;
+    let mut reader = open_reader(alloc, files, found.common.as_str())?;
+    let mut repository = read_repository(rt, files, found, &mut reader)?;
+    add_tips(&mut reader, &mut repository, tips)?;
     Ok((repository, reader))
 }
 
-// Returns the graph, refs and HEAD of a repository, and a reader of its objects.
-fn open<'f, R: Files, F: ObjectFiles>(
-    alloc: Global,
+// Returns the graph, refs and HEAD of a repository.
+fn read_repository<R: Files, F: ObjectFiles>(
     rt: &R,
-    files: &'f F,
+    files: &F,
     found: &Directories,
-) -> Result<(Repository<Global>, Reader<'f, F>), RepositoryFault<Global>> {
-    let path = found.common.as_str();
-    let mut reader = open_reader(alloc, files, path)?;
-    let commits = read_commit_graph(files, alloc, path)?;
-    let repository = open_repository(&found.refs(alloc, rt), &mut reader, &commits)?;
-    Ok((repository, reader))
+    reader: &mut Reader<'_, F>,
+) -> Result<Repository<Global>, RepositoryFault<Global>> {
+    let alloc = reader.store().allocator();
+    let commits = read_commit_graph(files, alloc, found.common.as_str())?;
+    open_repository(&found.refs(alloc, rt), reader, &commits)
+}
+
+// Adds the objects in `tips` that the repository has to its graph, and refs that point to the
+// newest objects of the graph before its other refs.
+fn add_tips<F: ObjectFiles>(
+    reader: &mut Reader<'_, F>,
+    repository: &mut Repository<Global>,
+    tips: &Tips<Global>,
+) -> Result<(), RepositoryFault<Global>> {
+    add_leaves(reader, &mut repository.graph, tips)?;
+    let more = tips.as_slice().len();
+    repository.refs = lead_with_newest(&repository.graph, &repository.refs, more)?;
+    Ok(())
 }
 
 /// Returns a reader of the objects of the Git directory at `path`.

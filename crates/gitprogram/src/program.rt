@@ -8,7 +8,7 @@ use crate::fault::Fault;
 use crate::fetching::fetch_remote;
 use crate::listing::list_refs;
 use crate::output::{print, write_line};
-use crate::sentences::Sentence;
+use crate::sentences::{NOT_TEXT, Sentence};
 use crate::serving::serve;
 use crate::uploading::upload_pack;
 use gitwords::{Answer, GitrepoCommand, Stream, read_words};
@@ -44,6 +44,15 @@ where
     let _input = File::open(rt, NULL_DEVICE);
     let _output = File::open(rt, NULL_DEVICE);
     let _errors = File::open(rt, NULL_DEVICE);
+    run_arguments(rt, is_terminal, stderr)
+}
+
+// Runs the command that the arguments select, and returns the exit status.
+fn run_arguments<R, W>(rt: &R, is_terminal: bool, stderr: &mut W) -> u8
+where
+    R: Env + Files + Input + Print + AllocGlobal + Clock + Net,
+    W: Write + IsTerminal,
+{
     let words = match arguments(rt) {
         Ok(words) => words,
         Err(kind) => return refuse_arguments(rt, kind, stderr),
@@ -72,7 +81,7 @@ fn refuse_arguments<R: AllocGlobal, W: Write>(rt: &R, kind: ErrorKind, errors: &
     if kind == ErrorKind::OutOfMemory {
         return finish(rt.alloc(), Err(Fault::Memory), errors);
     }
-    let fault = Fault::of(rt.alloc(), Sentence::NotText);
+    let fault = Fault::of(rt.alloc(), Sentence::Text(NOT_TEXT));
     let _ = finish(rt.alloc(), Err(fault), errors);
     WRONG_USAGE
 }
@@ -80,21 +89,30 @@ fn refuse_arguments<R: AllocGlobal, W: Write>(rt: &R, kind: ErrorKind, errors: &
 // Prints the answer to arguments that select no command: help, the version, or the usage after a
 // mistake. Returns the exit status.
 fn print_answer<R: Print + AllocGlobal, W: Write>(rt: &R, answer: &Answer, errors: &mut W) -> u8 {
+    match write_answer(rt, answer, errors) {
+        Ok(()) => answer.status(),
+        Err(fault) => finish(rt.alloc(), Err(fault), errors),
+    }
+}
+
+// Writes the text of an answer to its stream. Fails if the text cannot be printed on standard
+// output, or if out of memory.
+fn write_answer<R: Print + AllocGlobal, W: Write>(
+    rt: &R,
+    answer: &Answer,
+    errors: &mut W,
+) -> Result<(), Fault> {
     if let Answer::Memory = answer {
-        return finish(rt.alloc(), Err(Fault::Memory), errors);
+        return Err(Fault::Memory);
     }
     let text = answer.text().as_bytes();
     match answer.stream() {
-        Stream::Output => {
-            if let Err(fault) = print(rt, text) {
-                return finish(rt.alloc(), Err(fault), errors);
-            }
-        }
+        Stream::Output => print(rt, text),
         Stream::Error => {
             let _ = errors.write_all(text);
+            Ok(())
         }
     }
-    answer.status()
 }
 
 // Prints the fault if the command failed, and returns the exit status.

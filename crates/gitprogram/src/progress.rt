@@ -68,6 +68,11 @@ impl<'e, E: Write> Progress<'e, E> {
         }
     }
 
+    /// Returns the allocator of the text that is printed.
+    pub(crate) fn allocator(&self) -> Global {
+        *self.text.allocator()
+    }
+
     /// Returns whether the progress is shown.
     pub(crate) fn is_shown(&self) -> bool {
         self.is_shown
@@ -140,7 +145,7 @@ impl<'e, E: Write> Progress<'e, E> {
     fn put_pack(&mut self, end: &str) -> Result<(), AllocError> {
         let objects = self.pack.objects;
         let size = Size(self.pack.bytes);
-        let line = format!(in *self.text.allocator(); "Receiving objects: {objects}, {size}{end}")?;
+        let line = format!(in self.allocator(); "Receiving objects: {objects}, {size}{end}")?;
         self.text.extend_from_slice(line.as_bytes())
     }
 

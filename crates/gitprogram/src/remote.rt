@@ -1,7 +1,7 @@
 //! A repository on a server.
 
 use crate::fault::Fault;
-use crate::sentences::Sentence;
+use crate::sentences::{BAD_ADDRESS, Sentence};
 use gclient::FetchFault;
 use ghello::Hello;
 use gitrepository::Tips;
@@ -34,7 +34,13 @@ impl Remote {
                 hello,
                 address,
             }),
-            Err(_) => Err(Fault::of(alloc, Sentence::Address { url: text.as_str() })),
+            Err(_) => Err(Fault::of(
+                alloc,
+                Sentence::Named {
+                    name: text.as_str(),
+                    words: BAD_ADDRESS,
+                },
+            )),
         }
     }
 
@@ -44,8 +50,9 @@ impl Remote {
             Ok(stream) => Ok(stream),
             Err(error) => Err(Fault::of(
                 alloc,
-                Sentence::Connect {
-                    url: self.url.as_str(),
+                Sentence::System {
+                    call: "connect to ",
+                    name: self.url.as_str(),
                     error: &error,
                 },
             )),

@@ -5,19 +5,20 @@ use crate::disk::Disk;
 use crate::fault::Fault;
 use crate::kept::RepositoryCache;
 use crate::notes::Notes;
-use crate::opening::{Extent, NotOpened, has_refs};
+use crate::opening::{Extent, Listed, NotOpened, has_refs};
 use crate::refusals::{
     BAD_FIRST_LINE, BUSY, NOT_OPENED, NOT_SERVED, PACK_FAILED, TOO_LARGE_REQUEST,
 };
-use crate::sentences::{Sentence, form_text};
+use crate::sentences::{PATH_NOT_SERVED, Sentence, form_text};
 use crate::shared::{Loaded, Shared, share};
-use ganswer::ServeFault;
+use ganswer::{ServeFault, Server};
 use ggrammar::{MessageFault, Why};
 use ghello::Hello;
 use gserve::{MAX_ERR_TEXT, err_text};
 use gserver::{ErrText, Host, ServedRepository};
 use std::alloc::{AllocError, Global};
 use std::cell::RefCell;
+use std::rc::Rc;
 use std::time::SystemTime;
 
 /// A value that can close unused object stores.
@@ -81,6 +82,26 @@ impl<'d, D> Repositories<'d, D> {
         }
     }
 
+    // Adds a repository to the cache, unless the cache has it with other refs or another HEAD.
+    fn update_cache(&self, opened: &Shared<'d, D>) -> Result<(), AllocError> {
+        if self.differs_from_cache(opened)? {
+            Ok(())
+        } else {
+            self.add_to_cache(opened)
+        }
+    }
+
+    // Returns the repository in these directories, with the whole history.
+    fn load(
+        &self,
+        found: &Directories,
+        server: Server<Global>,
+    ) -> Result<Rc<Loaded, Global>, AllocError> {
+        let found = found.copy_in(self.alloc)?;
+        let extent = Extent::Whole(server);
+        share(self.alloc, Loaded { found, extent })
+    }
+
     // Records why a repository cannot be opened, and returns the error text for the client.
     fn refuse(&self, cause: NotOpened) -> ErrText {
         let mut text = ErrText::new();
@@ -103,7 +124,7 @@ impl<'d, D: Disk> Repositories<'d, D> {
     fn find_path(&self, path: &[u8]) -> Result<Directories, ErrText> {
         let fault = match self.disk.find(path) {
             Ok(Some(found)) => return Ok(found),
-            Ok(None) => Fault::of(self.alloc, Sentence::NotServed),
+            Ok(None) => Fault::of(self.alloc, Sentence::Text(PATH_NOT_SERVED)),
             Err(fault) => fault,
         };
         self.notes.note_fault(fault);
@@ -117,11 +138,31 @@ impl<'d, D: Disk> Repositories<'d, D> {
     // refs and this HEAD. Otherwise opens the repository for ls-refs, and adds it to the cache.
     fn find_and_list(&self, found: Directories) -> Result<Shared<'d, D>, NotOpened> {
         let listed = self.disk.list(&found)?;
-        if let Some(shared) = self.find_cached(&found)? {
-            if listed.matches(shared.server()) {
-                return Ok(shared.without_objects());
-            }
+        match self.find_listed(&found, &listed)? {
+            Some(shared) => Ok(shared.without_objects()),
+            None => self.open_for_ls_refs(found, listed),
         }
+    }
+
+    // Returns a handle to the cached repository in these directories if it has these refs and this
+    // HEAD, and `None` otherwise.
+    fn find_listed(
+        &self,
+        found: &Directories,
+        listed: &Listed,
+    ) -> Result<Option<Shared<'d, D>>, AllocError> {
+        match self.find_cached(found)? {
+            Some(shared) if listed.matches(shared.server()) => Ok(Some(shared)),
+            _ => Ok(None),
+        }
+    }
+
+    // Opens a repository for ls-refs, and adds it to the cache.
+    fn open_for_ls_refs(
+        &self,
+        found: Directories,
+        listed: Listed,
+    ) -> Result<Shared<'d, D>, NotOpened> {
         let extent = self.disk.open_for_ls_refs(&found, listed)?;
         let loaded = share(self.alloc, Loaded { found, extent })?;
         let shared = Shared::new(self.alloc, self.disk, loaded, None, None)?;
@@ -141,9 +182,7 @@ impl<'d, D: Disk> Repositories<'d, D> {
             return Ok(known);
         }
         let opened = self.open_now(&known, changed)?;
-        if !self.differs_from_cache(&opened)? {
-            self.add_to_cache(&opened)?;
-        }
+        self.update_cache(&opened)?;
         Ok(opened)
     }
 
@@ -153,16 +192,33 @@ impl<'d, D: Disk> Repositories<'d, D> {
         repo: &Shared<'d, D>,
         changed: Option<SystemTime>,
     ) -> Result<Shared<'d, D>, NotOpened> {
-        let found = &repo.loaded.found;
-        let (loaded, ticket) = match &repo.loaded.extent {
-            Extent::Whole(_) => (repo.loaded.clone()?, self.disk.open_objects(found)?),
-            Extent::Tips(tips) => {
-                let (server, ticket) = self.disk.open_history(found, tips)?;
-                let found = found.copy_in(self.alloc)?;
-                let extent = Extent::Whole(server);
-                (share(self.alloc, Loaded { found, extent })?, ticket)
-            }
-        };
+        match &repo.loaded.extent {
+            Extent::Whole(_) => self.open_objects(&repo.loaded, changed),
+            Extent::Tips(tips) => self.open_history(&repo.loaded.found, tips, changed),
+        }
+    }
+
+    // Opens the objects of a repository whose history was read before.
+    fn open_objects(
+        &self,
+        loaded: &Rc<Loaded, Global>,
+        changed: Option<SystemTime>,
+    ) -> Result<Shared<'d, D>, NotOpened> {
+        let loaded = loaded.clone()?;
+        let ticket = self.disk.open_objects(&loaded.found)?;
+        Ok(Shared::new(self.alloc, self.disk, loaded, Some(ticket), changed)?)
+    }
+
+    // Opens the objects of the repository in these directories, and reads the history of the refs
+    // and HEAD in `tips`.
+    fn open_history(
+        &self,
+        found: &Directories,
+        tips: &Server<Global>,
+        changed: Option<SystemTime>,
+    ) -> Result<Shared<'d, D>, NotOpened> {
+        let (server, ticket) = self.disk.open_history(found, tips)?;
+        let loaded = self.load(found, server)?;
         Ok(Shared::new(self.alloc, self.disk, loaded, Some(ticket), changed)?)
     }
 }

@@ -17,22 +17,103 @@ use std::alloc::Global;
 use std::io::ErrorKind;
 use std::{fmt, io};
 
+// The beginning of the message for a repository that a fetch cannot use.
+const NO_FETCH_INTO: &str = "cannot fetch into ";
+
+/// The message for an argument that is not UTF-8.
+pub(crate) const NOT_TEXT: &str = "an argument is not UTF-8: gitrepo takes no other names";
+
+/// The fault of a client whose path does not name a served repository.
+pub(crate) const PATH_NOT_SERVED: &str = "no repository is served at this path";
+
+/// The fault of a connection to a client that was lost.
+pub(crate) const CLIENT_LOST: &str = "the connection to the client was lost";
+
+/// The fault of a client that needs objects while the objects of too many repositories are open.
+pub(crate) const TOO_MANY_OPEN: &str = "the objects of too many repositories are open";
+
+/// The fault of a client that did not send its first line or a request in time.
+pub(crate) const CLIENT_SILENT: &str = "the client sent no request in its time";
+
+/// The fault of a client that accepted no byte in time.
+pub(crate) const CLIENT_STALLED: &str = "the client took nothing in its time";
+
+/// The fault of a connection that exceeded its time limit.
+pub(crate) const CLIENT_SLOW: &str = "the connection took too long";
+
+/// The message for a client of `upload-pack` that did not request version 2.
+pub(crate) const WRONG_VERSION: &str =
+    "GIT_PROTOCOL does not ask for version 2: use git -c protocol.version=2, \
+    and let sshd accept GIT_PROTOCOL";
+
+/// The message for a failed write to standard output whose error is unknown.
+pub(crate) const NO_OUTPUT: &str = "cannot write to standard output";
+
+/// The words of a message before and after a path or URL.
+#[derive(Clone, Copy)]
+pub(crate) struct Words {
+    before: &'static str,
+    after: &'static str,
+}
+
+/// The message for a path that does not lead to a Git repository.
+pub(crate) const NO_REPOSITORY: Words = Words {
+    before: "",
+    after: " is not a Git repository: name a bare repository or a work tree",
+};
+
+/// The message for the destination of a clone that exists and is not an empty directory.
+pub(crate) const OCCUPIED: Words = Words {
+    before: "",
+    after: " exists and is not an empty directory: name a new one",
+};
+
+/// The message for a URL whose path is not allowed in the first line of a connection.
+pub(crate) const BAD_ADDRESS: Words = Words {
+    before: "cannot ask for ",
+    after: ": its path must have ASCII characters alone, 1,000 at most",
+};
+
+/// The message for a server whose HEAD has the id of an object that does not peel to a commit.
+pub(crate) const NO_HEAD_COMMIT: Words = Words {
+    before: "HEAD of ",
+    after: " is at a tree or a blob: make a repository by 'git init --bare', and fetch into that",
+};
+
+/// The words about a ref that the fetch would update, although it is checked out.
+pub(crate) const CHECKED_OUT: &str = " is checked out: fetch into another ref";
+
+/// The words about a ref that was not moved because the update is not a fast-forward.
+pub(crate) const NOT_FORWARD: &str =
+    " is not moved, as this is no fast-forward: put + before its refspec";
+
+/// The words about a branch that the fetch would set to an object that is not a commit.
+pub(crate) const NO_COMMIT: &str =
+    " would be at a tag, a tree or a blob, but a branch is at a commit: fetch into refs/tags/";
+
+/// The words about a ref that the fetch would update, although its name is not UTF-8.
+pub(crate) const NO_FILE_NAME: &str = " is not UTF-8: fetch into another ref";
+
 /// An error message with its parameters.
 #[derive(Clone, Copy)]
 pub(crate) enum Sentence<'a> {
-    /// An argument is not UTF-8.
-    NotText,
-    /// A path does not lead to a Git repository.
-    NoRepository {
-        path: &'a str,
+    /// A message without parameters.
+    Text(&'static str),
+    /// A message that names a path or URL.
+    Named {
+        name: &'a str,
+        words: Words,
     },
-    /// The destination of a clone exists and is not an empty directory.
-    Occupied {
-        path: &'a str,
+    /// A ref that the fetch does not update. The words follow its name.
+    Ref {
+        name: &'a [u8],
+        words: &'static str,
     },
-    /// The system cannot open a file.
-    Open {
-        path: &'a str,
+    /// A system call failed. The text `call` ends with a space, and `name` is the name of a file or
+    /// an address.
+    System {
+        call: &'static str,
+        name: &'a str,
         error: &'a io::Error,
     },
     /// Reading or writing a repository failed.
@@ -46,26 +127,6 @@ pub(crate) enum Sentence<'a> {
         name: &'a [u8],
         fault: &'a RepositoryFault<Global>,
     },
-    /// The fetch would update the checked-out branch.
-    CheckedOut {
-        name: &'a [u8],
-    },
-    /// A ref was not moved because the update is not a fast-forward.
-    NotForward {
-        name: &'a [u8],
-    },
-    /// The fetch would set a branch to an object that is not a commit.
-    NoCommit {
-        name: &'a [u8],
-    },
-    /// The HEAD of a clone would point to an object that is not a commit.
-    NoHeadCommit {
-        url: &'a str,
-    },
-    /// The fetch would update a ref whose name is not UTF-8.
-    NoFileName {
-        name: &'a [u8],
-    },
     /// A repository cannot be served.
     Build {
         path: &'a str,
@@ -75,15 +136,6 @@ pub(crate) enum Sentence<'a> {
     Client {
         path: &'a str,
         fault: &'a RepoFault<Global>,
-    },
-    /// The path of the URL is not allowed in the first line of a connection.
-    Address {
-        url: &'a str,
-    },
-    /// The server cannot be reached.
-    Connect {
-        url: &'a str,
-        error: &'a io::Error,
     },
     /// The conversation with the server failed.
     Fetch {
@@ -100,112 +152,51 @@ pub(crate) enum Sentence<'a> {
         url: &'a str,
         fault: &'a RepositoryFault<Global>,
     },
-    /// The program cannot listen at the address.
-    Listen {
-        address: &'a str,
-        error: &'a io::Error,
-    },
-    /// The program cannot accept connections, because a system call failed.
-    Accept {
-        error: &'a io::Error,
-    },
-    /// A client's path does not name a served repository.
-    NotServed,
     /// A client's request is refused.
     Request(&'a ServeFault),
-    /// The connection to the client was lost.
-    ClientLost,
-    /// The objects of too many repositories are open.
-    Busy,
-    /// The client did not send its first line or a request in time.
-    ClientSilent,
-    /// The client accepted no byte in time.
-    ClientStalled,
-    /// The connection exceeded its time limit.
-    ClientSlow,
-    /// The client of `upload-pack` did not request version 2.
-    NoVersion2,
-    /// Writing to standard output failed.
-    Output {
-        error: Option<&'a io::Error>,
-    },
 }
 
 impl fmt::Display for Sentence<'_> {
     fn fmt<W: fmt::Write>(&self, f: &mut fmt::Formatter<W>) -> fmt::Result {
         match self {
-            Sentence::NotText => f.write_str(
-                "an argument is not UTF-8: gitrepo takes no other names",
-            ),
-            Sentence::NoRepository { path } => write!(
-                f,
-                "{path} is not a Git repository: name a bare repository or a work tree"
-            ),
-            Sentence::Occupied { path } => {
-                write!(
-                    f,
-                    "{path} exists and is not an empty directory: name a new one"
-                )
-            }
-            Sentence::Open { path, error } => write_refused("open ", path, error, f),
+            Sentence::Text(text) => f.write_str(text),
+            Sentence::Named { name, words } => write_named(name, *words, f),
+            Sentence::Ref { name, words } => write_ref(name, words, f),
+            Sentence::System { call, name, error } => write_refused(call, name, error, f),
             Sentence::Repository { path, fault } => write_repository(path, fault, f),
             Sentence::BrokenRef { path, name, fault } => write_broken_ref(path, name, fault, f),
-            Sentence::CheckedOut { name } => {
-                write!(f, "{} is checked out: fetch into another ref", Clean(name))
-            }
-            Sentence::NotForward { name } => write!(
-                f,
-                "{} is not moved, as this is no fast-forward: put + before its refspec",
-                Clean(name)
-            ),
-            Sentence::NoCommit { name } => write!(
-                f,
-                "{} would be at a tag, a tree or a blob, but a branch is at a commit: fetch into refs/tags/",
-                Clean(name)
-            ),
-            Sentence::NoHeadCommit { url } => write!(
-                f,
-                "HEAD of {url} is at a tree or a blob: make a repository by 'git init --bare', and fetch into that"
-            ),
-            Sentence::NoFileName { name } => {
-                write!(f, "{} is not UTF-8: fetch into another ref", Clean(name))
-            }
-            Sentence::Build { path, fault } => write!(f, "cannot serve {path}: {fault}"),
-            Sentence::Client { path, fault } => write_client_repo(path, fault, f),
-            Sentence::Address { url } => write!(
-                f,
-                "cannot ask for {url}: its path must have ASCII characters alone, 1,000 at most"
-            ),
-            Sentence::Connect { url, error } => write_refused("connect to ", url, error, f),
+            Sentence::Build { path, fault } => write_cause("cannot serve ", path, *fault, f),
+            Sentence::Client { path, fault } => write_cause(NO_FETCH_INTO, path, *fault, f),
             Sentence::Fetch { url, fault } => write_fetch(url, fault, f),
-            Sentence::NoRef { url, name } => write!(
-                f,
-                "{url} has no ref {}: 'gitrepo ls {url}' lists those that it has",
-                Clean(name)
-            ),
-            Sentence::RefusedPack { url, fault } => {
-                write!(f, "the pack from {url} is refused: {fault}")
-            }
-            Sentence::Listen { address, error } => write_refused("listen at ", address, error, f),
-            Sentence::Accept { error } => write_refused("accept ", "connections", error, f),
-            Sentence::NotServed => f.write_str("no repository is served at this path"),
+            Sentence::NoRef { url, name } => write_no_ref(url, name, f),
+            Sentence::RefusedPack { url, fault } => write_refused_pack(url, fault, f),
             Sentence::Request(fault) => write_request(fault, f),
-            Sentence::ClientLost => f.write_str("the connection to the client was lost"),
-            Sentence::Busy => f.write_str("the objects of too many repositories are open"),
-            Sentence::ClientSilent => f.write_str("the client sent no request in its time"),
-            Sentence::ClientStalled => f.write_str("the client took nothing in its time"),
-            Sentence::ClientSlow => f.write_str("the connection took too long"),
-            Sentence::NoVersion2 => f.write_str(
-                "GIT_PROTOCOL does not ask for version 2: use git -c protocol.version=2, \
-                and let sshd accept GIT_PROTOCOL",
-            ),
-            Sentence::Output { error: Some(error) } => {
-                write_refused("write to ", "standard output", error, f)
-            }
-            Sentence::Output { error: None } => f.write_str("cannot write to standard output"),
         }
     }
 }
+
+// Writes a path or URL between the words of a message.
+fn write_named<W: fmt::Write>(name: &str, words: Words, f: &mut fmt::Formatter<W>) -> fmt::Result {
+    let Words { before, after } = words;
+    write!(f, "{before}{name}{after}")
+}
+
+// Writes the words about a ref after its name.
+fn write_ref<W: fmt::Write>(name: &[u8], words: &str, f: &mut fmt::Formatter<W>) -> fmt::Result {
+    write!(f, "{}{words}", Clean(name))
+}
+
+// Writes what failed, the name of a repository, and the cause.
+fn write_cause<D: fmt::Display, W: fmt::Write>(
+    what: &str,
+    name: &str,
+    cause: &D,
+    f: &mut fmt::Formatter<W>,
+) -> fmt::Result {
+    write!(f, "{what}{name}: {cause}")
+}
+
+// ---- system calls
 
 // Writes the message for a failed system call.
 fn write_refused<W: fmt::Write>(
@@ -241,7 +232,7 @@ fn write_repository<W: fmt::Write>(
         RepositoryFault::File { path, error } => write_refused("write ", path.as_str(), error, f),
         RepositoryFault::Store(StoreFault::File(fault)) => write_store_file(fault, f),
         RepositoryFault::Form { fault, .. } => write!(f, "{path} {}", form_text(*fault)),
-        _ if fault.is_of_spool() => write!(f, "cannot fetch into {path}: {fault}"),
+        _ if fault.is_of_spool() => write_cause(NO_FETCH_INTO, path, fault, f),
         RepositoryFault::Objects => write!(
             f,
             "{path} has more than {} commits and tags: use git",
@@ -354,15 +345,23 @@ impl fmt::Display for RefFile<'_> {
     }
 }
 
-fn write_client_repo<W: fmt::Write>(
-    path: &str,
-    fault: &RepoFault<Global>,
-    f: &mut fmt::Formatter<W>,
-) -> fmt::Result {
-    write!(f, "cannot fetch into {path}: {fault}")
+// ---- faults of a conversation with a server
+
+fn write_no_ref<W: fmt::Write>(url: &str, name: &[u8], f: &mut fmt::Formatter<W>) -> fmt::Result {
+    write!(
+        f,
+        "{url} has no ref {}: 'gitrepo ls {url}' lists those that it has",
+        Clean(name)
+    )
 }
 
-// ---- faults of a conversation with a server
+fn write_refused_pack<W: fmt::Write>(
+    url: &str,
+    fault: &RepositoryFault<Global>,
+    f: &mut fmt::Formatter<W>,
+) -> fmt::Result {
+    write!(f, "the pack from {url} is refused: {fault}")
+}
 
 fn write_fetch<W: fmt::Write>(
     url: &str,

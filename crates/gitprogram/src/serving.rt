@@ -32,22 +32,25 @@ where
     E: Write,
 {
     check_base(rt, args.base)?;
-    let listener = match listen(rt, args.listen) {
-        Ok(listener) => listener,
-        Err(error) => return Err(Fault::of(
-            rt.alloc(),
-            Sentence::Listen {
-                address: args.listen,
-                error: &error,
-            },
-        )),
-    };
+    let listener = listen(rt, args.listen)?;
     announce(rt, &listener)?;
     let files = StoredFiles::new(rt);
     match serve_files(rt, &files, args, listener, errors) {
         Ok(()) => Ok(()),
-        Err(error) => Err(Fault::of(rt.alloc(), Sentence::Accept { error: &error })),
+        Err(error) => Err(accept_fault(rt.alloc(), &error)),
     }
+}
+
+// Returns the fault for connections that cannot be accepted, because a system call failed.
+fn accept_fault(alloc: Global, error: &io::Error) -> Fault {
+    Fault::of(
+        alloc,
+        Sentence::System {
+            call: "accept ",
+            name: "connections",
+            error,
+        },
+    )
 }
 
 // Serves the repositories to clients, reading objects from `files`.
@@ -173,8 +176,7 @@ where
         }
         Some(Event::Refused(address, why)) => {
             clients.refuse(packet_of(why));
-            let text = log_text_of(why);
-            write_line(rt.alloc(), &RefusedLine { address, text }, errors);
+            log_refused(rt.alloc(), address, why, errors);
         }
         Some(Event::Ended(ended)) => {
             log_ended(rt.alloc(), ended, errors);
@@ -183,6 +185,12 @@ where
         None => return Ok(false),
     }
     Ok(true)
+}
+
+// Writes the log line for a client that exceeds the connection limit.
+fn log_refused<E: Write>(alloc: Global, address: SocketAddr, why: Refusal, errors: &mut E) {
+    let text = log_text_of(why);
+    write_line(alloc, &RefusedLine { address, text }, errors);
 }
 
 // Returns the error packet for a client that exceeds the connection limit.
@@ -227,7 +235,21 @@ fn check_base<R: Files + AllocGlobal>(rt: &R, base: &str) -> Result<(), Fault> {
 }
 
 // Resolves `address`, a text HOST:PORT, and listens on the first usable IP address.
-fn listen<R: Net>(rt: &R, address: &str) -> io::Result<TcpListener> {
+fn listen<R: Net + AllocGlobal>(rt: &R, address: &str) -> Result<TcpListener, Fault> {
+    match bind_first(rt, address) {
+        Ok(listener) => Ok(listener),
+        Err(error) => Err(Fault::of(
+            rt.alloc(),
+            Sentence::System {
+                call: "listen at ",
+                name: address,
+                error: &error,
+            },
+        )),
+    }
+}
+
+fn bind_first<R: Net>(rt: &R, address: &str) -> io::Result<TcpListener> {
     let mut last = io::Error::from(ErrorKind::AddrNotAvailable);
     for address in address.to_socket_addrs(rt)? {
         match TcpListener::bind(rt, address) {
@@ -246,6 +268,6 @@ fn announce<R: Print + AllocGlobal>(rt: &R, listener: &TcpListener) -> Result<()
             let line = format!(in rt.alloc(); "listening {port}\n")?;
             print(rt, line.as_bytes())
         }
-        Err(error) => Err(Fault::of(rt.alloc(), Sentence::Accept { error: &error })),
+        Err(error) => Err(accept_fault(rt.alloc(), &error)),
     }
 }

@@ -11,7 +11,7 @@ use crate::limits::LIMITS;
 use crate::notes::Notes;
 use crate::refusals::send_error;
 use crate::repositories::Repositories;
-use crate::sentences::Sentence;
+use crate::sentences::{Sentence, WRONG_VERSION};
 use crate::shared::{RecordsFault, Shared};
 use crate::stored::{ServedFrom, Stored};
 use crate::visits::{begin, fault_of_visit};
@@ -68,10 +68,23 @@ where
 {
     if !has_version_2(rt) {
         let _ = send_error(NO_VERSION_2, sink);
-        return Err(Fault::of(rt.alloc(), Sentence::NoVersion2));
+        return Err(Fault::of(rt.alloc(), Sentence::Text(WRONG_VERSION)));
     }
     let path = expand_home(rt, dir)?;
-    match find_repository(rt, path.as_str()) {
+    upload_at(rt, path.as_str(), source, sink)
+}
+
+// Serves the repository at a path, or sends an error packet if there is none.
+fn upload_at<R, S: Source, W: Sink>(
+    rt: &R,
+    path: &str,
+    source: &mut S,
+    sink: &mut W,
+) -> Result<(), Fault>
+where
+    R: Files + AllocGlobal,
+{
+    match find_repository(rt, path) {
         Ok(found) => upload_found(rt, &found, source, sink),
         Err(fault) => {
             let _ = send_error(NOT_THERE, sink);

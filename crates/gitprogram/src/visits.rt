@@ -5,7 +5,7 @@ ghost use Rattle.gtalk.specs.Talks.{no_talk};
 use crate::fault::Fault;
 use crate::notes::Notes;
 use crate::output::write_line;
-use crate::sentences::{Clean, Sentence};
+use crate::sentences::{CLIENT_LOST, CLIENT_SILENT, CLIENT_SLOW, CLIENT_STALLED, Clean, Sentence};
 use crate::shared::RecordsFault;
 use crate::visitor::Visitor;
 use gdialogue::Dialogue;
@@ -101,18 +101,23 @@ fn fault_of<H, K: RecordsFault>(
     if noted.is_some() {
         return noted;
     }
-    if let Some(fault) = fault_of_side(alloc, side) {
-        return Some(fault);
+    match fault_of_side(alloc, side) {
+        Some(fault) => Some(fault),
+        None => fault_of_end(alloc, end),
     }
-    let sentence = match end {
+}
+
+// Returns the fault for the end of a connection, or `None` if the client ended it.
+fn fault_of_end(alloc: Global, end: End) -> Option<Fault> {
+    let text = match end {
         End::Over => return None,
-        End::Silent => Sentence::ClientSilent,
-        End::Stalled => Sentence::ClientStalled,
-        End::Overdue => Sentence::ClientSlow,
-        End::Lost => Sentence::ClientLost,
+        End::Silent => CLIENT_SILENT,
+        End::Stalled => CLIENT_STALLED,
+        End::Overdue => CLIENT_SLOW,
+        End::Lost => CLIENT_LOST,
         End::Memory => return Some(Fault::Memory),
     };
-    Some(Fault::of(alloc, sentence))
+    Some(Fault::of(alloc, Sentence::Text(text)))
 }
 
 // Returns the recorded fault of the repository, or the fault of a refused request if the repository
