@@ -14,7 +14,7 @@ use Rattle.gdialogue.specs.declared.side.Said.{Said}
 use Rattle.gdialogue.specs.declared.side.Said.TheVariants as said
 use Rattle.gdialogue.specs.declared.side.Answer.{Answer}
 use Rattle.gdialogue.specs.declared.side.Answer.TheVariants as answer
-use Rattle.gdialogue.specs.Dialogues.{Answered, HasEnded, HoldsEnding, HoldsHearing, HoldsSaying, HasReplied, HoldsStage, IsRefused, reason_of}
+use Rattle.gdialogue.specs.Dialogues.{Answered, HoldsEnding, HoldsHearing, HoldsSaying, HasReplied, HoldsStage, IsRefused, reason_of}
 use Rattle.gdialogue.specs.Dialogues as dialogue
 use Rattle.gdialogue.specs.declared.dialogue.DialogueStage.{DialogueStage}
 use Rattle.gdialogue.specs.declared.dialogue.DialogueStage.TheVariants as stage
@@ -49,16 +49,6 @@ module _ {S M R : Type 0} (judge : S → Judge) (brings : S → List Packet → 
   answered_so first heard before reply stop goes side (dialogue.HasReplied.answered so_far so_said lines said on mid last a w h) is =
       (dialogue.Answered.more so_far so_said lines said mid last a w (subst (λ g. answers mid lines said g last) is h), refl)
   answered_so first heard before reply stop goes side (dialogue.HasReplied.refused so_far so_said lines said why fault mid last a r h) is = absurd (cc is)
-
-  -- a latest answer after which the dialogue does not continue
-  pub ended_so : (first : S) (heard before reply : List Packet) (stop : Option Stop) (goes : Bool) (side : S) → Replied first heard stop before reply goes side
-      → goes ≡ false → HasEnded judge brings opens answers refuses first heard stop (before ++ reply) side
-  ended_so first heard before reply stop goes side (dialogue.HasReplied.opened said on h) is =
-      dialogue.HasEnded.opened said (subst (opens first said) is h)
-  ended_so first heard before reply stop goes side (dialogue.HasReplied.answered so_far so_said lines said on mid last a w h) is =
-      dialogue.HasEnded.last so_far so_said lines said mid last a w (subst (λ g. answers mid lines said g last) is h)
-  ended_so first heard before reply stop goes side (dialogue.HasReplied.refused so_far so_said lines said why fault mid last a r h) is =
-      dialogue.HasEnded.refused so_far so_said lines said why fault mid last a r h
 
   -- equal lists of packets and equal stop reasons describe the same answer
   replied_so : (first after : S) (heard all before reply : List Packet) (stop stopped : Option Stop) (goes : Bool) → all ≡ heard → stopped ≡ stop

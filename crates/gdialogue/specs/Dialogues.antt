@@ -59,17 +59,6 @@ module _ {S : Type 0} (judge : S → Judge) (brings : S → List Packet → Pack
         → IsWhole (judge mid) lines → answers mid lines reply true last
         → Answered first (heard ++ lines) (said ++ reply) last
 
-  -- how a dialogue ends: after the packets before the first message, after a last answer, or after a refused message
-  pub data HasEnded (first : S) : List Packet → Option Stop → List Packet → S → Type 0 where
-    opened : (said : List Packet) → opens first said false → HasEnded first [] None said first
-    last : (heard said lines reply : List Packet) (mid last : S) → Answered first heard said mid
-        → IsWhole (judge mid) lines → answers mid lines reply false last
-        → HasEnded first (heard ++ lines) None (said ++ reply) last
-    refused : (heard said lines reply : List Packet) (stop : Option Stop) (fault : MessageFault) (mid last : S)
-        → Answered first heard said mid → IsRefused (judge mid) (brings mid) lines stop fault
-        → refuses mid fault reply last
-        → HasEnded first (heard ++ lines) stop (said ++ reply) last
-
   -- The latest answer of this end, or the packets that it sent before the first message. The arguments are all packets
   -- received, the reason why no more packets arrive, the packets of all earlier answers, the packets of this answer,
   -- whether the dialogue then continues, and the state of this end.

@@ -16,7 +16,7 @@ use Rattle.gtalk.specs.declared.fault.TalkFault.TheVariants.{Io, Memory}
 use Rattle.gdialogue.specs.Dialogues.{HasReplied}
 
 -- The bytes `partial` that were received after the last packet, and the source. `last` contains the unread bytes of the
--- source, if known, and `down` states whether the source has failed. Receiving never ran out of memory.
+-- source, if known, and `down` states whether the source has failed. Memory never ran out while packets were received.
 pub record Leaves (stopped : Option Stop) (partial : Bytes) (last : Option Bytes) (down : Bool) : Type 0 where
   pub rest : IsStopped stopped partial
   pub within : IsWithinPacket partial
@@ -24,7 +24,7 @@ pub record Leaves (stopped : Option Stop) (partial : Bytes) (last : Option Bytes
   pub memory : stopped ≢ Some (stop.Refused packet.Memory)
   pub source : LeavesSource stopped last down
 
--- exactly the bytes `more` are read, which encode the received packets, followed by a part of the next packet
+-- exactly the bytes `more` are read, which encode the received packets, followed by the bytes after the last packet
 pub record Receives (heard : List Packet) (stopped : Option Stop) (read : Change) (down : Bool) : Type 0 where
   pub more : Bytes
   pub partial : Bytes
@@ -48,8 +48,8 @@ module _ {S : Type 0} (judge : S → Judge) (brings : S → List Packet → Pack
     pub wrote : Appends written.old written.new (canonical_all earlier ++ canonical_all reply)
     pub flushed : HasSent sent (canonical_all earlier ++ canonical_all reply) written passed_on sink_down Untouched
 
-  -- The sink failed while the dialogue sent its latest answer, of which it had queued at least one packet. All earlier
-  -- answers are flushed, and a prefix of the latest answer is written.
+  -- The sink failed while the dialogue sent its latest answer, which has at least one packet. All earlier answers are
+  -- flushed, and a prefix of the latest answer is written.
   pub record HasBroken (first now : S) (read written passed_on : Change) (source_down : Bool) : Type 0 where
     pub heard : List Packet
     pub stopped : Option Stop

@@ -8,9 +8,9 @@ use std::marker::{Brand, PhantomData};
 
 /// A ghost value: the first state of a side.
 ///
-/// The contracts of a dialogue speak of *some* first state of the side, which the packets before
-/// the first message allow. A caller that runs a whole dialogue knows this state. Such a caller
-/// chooses `is_first` for the type [`Brand`](std::marker::Brand), in the proof of its call.
+/// The contracts of a dialogue describe *some* first state of the side, which the packets before
+/// the first message allow. A caller that runs a whole dialogue knows this state. In the proof of
+/// its call, the caller chooses `is_first` for the type [`Brand`](std::marker::Brand).
 pub trait First<S> {
     // Whether the dialogue began with this state of the side.
     ghost is_first: { S → Type 0 };
@@ -30,7 +30,7 @@ pub struct Begun<S, L> {
 }
 
 impl<S, L> Begun<S, L> {
-    /// Returns a side that has received no message.
+    /// Wraps a side.
     pub fn new(side: S) -> Begun<S, L>
         ensures { result.side ≡ side }
     {

@@ -8,12 +8,13 @@
 //! # Proved
 //!
 //! - Messages and answers alternate. Each message that is not refused is complete according to the
-//!   grammar of the side's current state, and the side answers it in that state. Apart from packets
-//!   before the first message, the side sends only answers (`Answered` in `specs/Dialogues.antt`).
+//!   grammar of the side's current state. The side answers the message in that state. Apart from
+//!   packets before the first message, the side sends only answers (`Answered` in
+//!   `specs/Dialogues.antt`).
 //! - The message that is being received is related to its packets so far and to the side's current
 //!   state, as `hears` of [`Side`] states (`HoldsHearing` in `specs/Dialogues.antt`).
 //! - A dialogue ends with a last answer, with a reply that ends the dialogue early, or with a
-//!   refused message (`HasEnded`). A message is refused at the first packet that its grammar
+//!   refused message (`HoldsOver`, `HasReplied`). A message is refused at the first packet that its grammar
 //!   rejects, with the position of the packet and the reason. A message is also refused if memory
 //!   runs out for a packet, or if no more packets arrive and the message is incomplete.
 //! - The packets that were queued since the last received packet are a part of the latest answer
@@ -34,6 +35,12 @@
 //! - No contract rules out that a reply queues only one packet per call, or no packet in many
 //!   calls.
 //! - No contract restricts the answers of a side, except the side's own contract.
+//! - No contract rules out that a reply permits no list of packets (`may` in [`Reply`]). Only
+//!   [`run_dialogue`] requires that each reply permits one.
+//! - No contract rules out that a side reports out of memory for a packet with content (`brings` in
+//!   [`Side`]) although memory is available.
+//! - No contract rules out that [`run_dialogue`] leaves sent packets unflushed, if the written or
+//!   flushed bytes of the sink are unknown before the call, or that it flushes an answer twice.
 //! - No contract limits the time that a side needs for an answer. Meanwhile, the dialogue neither
 //!   receives nor sends packets.
 //!

@@ -3,7 +3,7 @@
 ghost use Rattle.std.specs.Prelude.{◌≡◌, [], Bool, List, false, true, IfErr, IfOk};
 ghost use Rattle.gpkt.specs.Change.{change_of};
 ghost use Rattle.gpkt.specs.Packets.{Packet};
-ghost use Rattle.gtalk.specs.steps.Driving.{IsDownBy};
+ghost use Rattle.gtalk.specs.Connections.{IsDownBy};
 ghost use Rattle.gdialogue.specs.Running.{BreaksBy, HasRun};
 
 use crate::begun::{Begun, First};
@@ -17,8 +17,9 @@ use std::marker::Brand;
 /// Runs a dialogue from its first message to its end. Each answer is flushed before the next read.
 /// Returns the side, and whether a packet was sent.
 ///
-/// Fails with `Io` if the sink fails. The dialogue never runs out of memory for packets. A message
-/// is refused if the source ends or fails before the end of the message.
+/// Requires that the other end sends the first message, and that some list of packets completes
+/// each reply. Fails with `Io` if the sink fails, and never with `Memory`. A message is refused if
+/// the source ends or fails before the end of the message.
 pub fn run_dialogue<
     S: Side<M, R> + Drop,
     M: Drop,

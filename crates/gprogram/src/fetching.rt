@@ -6,7 +6,7 @@ use crate::streams::drop_unflushed;
 use gargs::Fetch;
 use gcmd::{FetchOptions, ProgramFault, Spec, cmd_fetch_stored, read_specs};
 use glockfile::StoredFile;
-use gpkt::{FromRead, Sink, ToWrite};
+use gpkt::{FromRead, Sink, Source, ToWrite};
 use gtcp::{Location, RemoteFetch, cmd_fetch_remote};
 use std::io;
 use std::io::{BufReader, BufWriter};
@@ -61,22 +61,41 @@ where
     R: Files + Input + Print + AllocGlobal,
     E: Sink,
 {
-    let alloc = rt.alloc();
-    let Ok(mut stdin) = BufReader::new(alloc, rt.reader()) else {
-        return fail(ProgramFault::Memory, errors);
-    };
-    let Ok(mut stdout) = BufWriter::new(alloc, io::writer(rt)) else {
-        return fail(ProgramFault::Memory, errors);
-    };
-    let mut file = StoredFile::new(alloc, rt, args.file.as_str());
     let fetch = FetchOptions {
         specs,
         limit: args.limit,
         ends: args.ends,
     };
-    let mut input = FromRead::new(&mut stdin);
-    let mut output = ToWrite::new(&mut stdout);
-    let status = cmd_fetch_stored(alloc, &mut file, &fetch, &mut input, &mut output, errors);
-    drop_unflushed(stdout);
-    status
+    match BufReader::new(rt.alloc(), rt.reader()) {
+        Ok(mut stdin) => {
+            let mut input = FromRead::new(&mut stdin);
+            fetch_from(rt, args.file.as_str(), &fetch, &mut input, errors)
+        }
+        Err(_) => fail(ProgramFault::Memory, errors),
+    }
+}
+
+// Fetches over `input` and standard output.
+fn fetch_from<R, S, E>(
+    rt: &R,
+    file: &str,
+    fetch: &FetchOptions<'_>,
+    input: &mut S,
+    errors: &mut E,
+) -> u8
+where
+    R: Files + Print + AllocGlobal,
+    S: Source,
+    E: Sink,
+{
+    match BufWriter::new(rt.alloc(), io::writer(rt)) {
+        Ok(mut stdout) => {
+            let mut file = StoredFile::new(rt.alloc(), rt, file);
+            let mut output = ToWrite::new(&mut stdout);
+            let status = cmd_fetch_stored(rt.alloc(), &mut file, fetch, input, &mut output, errors);
+            drop_unflushed(stdout);
+            status
+        }
+        Err(_) => fail(ProgramFault::Memory, errors),
+    }
 }

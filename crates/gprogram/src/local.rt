@@ -4,7 +4,7 @@ use crate::faults::fail;
 use crate::files::read;
 use crate::streams::drop_unflushed;
 use gcmd::{Ends, ProgramFault, cmd_check, cmd_lines, cmd_ls, cmd_upload};
-use gpkt::{FromRead, Sink, ToWrite};
+use gpkt::{FromRead, Sink, Source, ToWrite};
 use std::io;
 use std::io::{BufReader, BufWriter};
 use std::rt::Files;
@@ -46,17 +46,28 @@ where
     R: Input + Print + AllocGlobal,
     E: Sink,
 {
-    let Ok(mut stdin) = BufReader::new(rt.alloc(), rt.reader()) else {
-        return fail(ProgramFault::Memory, errors);
-    };
-    let Ok(mut stdout) = BufWriter::new(rt.alloc(), io::writer(rt)) else {
-        return fail(ProgramFault::Memory, errors);
-    };
-    let mut input = FromRead::new(&mut stdin);
-    let mut output = ToWrite::new(&mut stdout);
-    let status = cmd_lines(rt.alloc(), &mut input, &mut output, errors);
-    drop_unflushed(stdout);
-    status
+    match BufReader::new(rt.alloc(), rt.reader()) {
+        Ok(mut stdin) => show_lines_of(rt, &mut FromRead::new(&mut stdin), errors),
+        Err(_) => fail(ProgramFault::Memory, errors),
+    }
+}
+
+// Shows the packets of `input` as lines on standard output.
+fn show_lines_of<R, S, E>(rt: &R, input: &mut S, errors: &mut E) -> u8
+where
+    R: Print + AllocGlobal,
+    S: Source,
+    E: Sink,
+{
+    match BufWriter::new(rt.alloc(), io::writer(rt)) {
+        Ok(mut stdout) => {
+            let mut output = ToWrite::new(&mut stdout);
+            let status = cmd_lines(rt.alloc(), input, &mut output, errors);
+            drop_unflushed(stdout);
+            status
+        }
+        Err(_) => fail(ProgramFault::Memory, errors),
+    }
 }
 
 /// A service that the program offers on standard input and output.
@@ -87,21 +98,37 @@ where
     R: Input + Print + AllocGlobal,
     E: Sink,
 {
-    let alloc = rt.alloc();
-    let Ok(mut stdin) = BufReader::new(alloc, rt.reader()) else {
-        return fail(ProgramFault::Memory, errors);
-    };
-    let Ok(mut stdout) = BufWriter::with_capacity(alloc, REPLY_BUFFER, io::writer(rt)) else {
-        return fail(ProgramFault::Memory, errors);
-    };
-    let mut input = FromRead::new(&mut stdin);
-    let mut output = ToWrite::new(&mut stdout);
-    let status = match service {
-        StdioService::Request => cmd_ls(alloc, text, &mut input, &mut output, errors),
-        StdioService::Connection(ends) => {
-            cmd_upload(alloc, text, ends, &mut input, &mut output, errors)
+    match BufReader::new(rt.alloc(), rt.reader()) {
+        Ok(mut stdin) => serve_input(rt, service, text, &mut FromRead::new(&mut stdin), errors),
+        Err(_) => fail(ProgramFault::Memory, errors),
+    }
+}
+
+// Reads requests from `input`, and writes replies to standard output.
+fn serve_input<R, S, E>(
+    rt: &R,
+    service: StdioService,
+    text: &[u8],
+    input: &mut S,
+    errors: &mut E,
+) -> u8
+where
+    R: Print + AllocGlobal,
+    S: Source,
+    E: Sink,
+{
+    match BufWriter::with_capacity(rt.alloc(), REPLY_BUFFER, io::writer(rt)) {
+        Ok(mut stdout) => {
+            let mut output = ToWrite::new(&mut stdout);
+            let status = match service {
+                StdioService::Request => cmd_ls(rt.alloc(), text, input, &mut output, errors),
+                StdioService::Connection(ends) => {
+                    cmd_upload(rt.alloc(), text, ends, input, &mut output, errors)
+                }
+            };
+            drop_unflushed(stdout);
+            status
         }
-    };
-    drop_unflushed(stdout);
-    status
+        Err(_) => fail(ProgramFault::Memory, errors),
+    }
 }

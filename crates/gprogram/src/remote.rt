@@ -46,17 +46,18 @@ where
     R: Print + AllocGlobal + Clock + Net,
     E: Sink,
 {
-    let prefixes = match read_prefixes(rt.alloc(), words) {
-        Ok(prefixes) => prefixes,
-        Err(fault) => return fail(fault, errors),
-    };
-    let listing = Listing {
-        place,
-        prefixes: prefixes.as_slice(),
-    };
-    let mut stdout = io::writer(rt);
-    let mut output = ToWrite::new(&mut stdout);
-    cmd_ls_remote(rt, rt.alloc(), &listing, &mut output, errors)
+    match read_prefixes(rt.alloc(), words) {
+        Ok(prefixes) => {
+            let listing = Listing {
+                place,
+                prefixes: prefixes.as_slice(),
+            };
+            let mut stdout = io::writer(rt);
+            let mut output = ToWrite::new(&mut stdout);
+            cmd_ls_remote(rt, rt.alloc(), &listing, &mut output, errors)
+        }
+        Err(fault) => fail(fault, errors),
+    }
 }
 
 /// The arguments of `pair`: the names of the two files, and the unparsed refspecs.
@@ -105,16 +106,17 @@ where
     R: Files + Print + AllocGlobal + Net,
     E: Sink,
 {
-    let client = match read(rt, client) {
-        Ok(client) => client,
-        Err(fault) => return fail(fault, errors),
-    };
-    let pair = Pair {
-        server,
-        client: client.as_slice(),
-        specs,
-    };
-    let mut stdout = io::writer(rt);
-    let mut output = ToWrite::new(&mut stdout);
-    cmd_pair(rt, &pair, &mut output, errors)
+    match read(rt, client) {
+        Ok(client) => {
+            let pair = Pair {
+                server,
+                client: client.as_slice(),
+                specs,
+            };
+            let mut stdout = io::writer(rt);
+            let mut output = ToWrite::new(&mut stdout);
+            cmd_pair(rt, &pair, &mut output, errors)
+        }
+        Err(fault) => fail(fault, errors),
+    }
 }

@@ -28,21 +28,31 @@ where
     R: Files + Print + AllocGlobal,
     E: Sink,
 {
-    let Ok(client) = read(rt, args.client.as_str()) else {
-        return fail(first_file_fault(rt.alloc(), server, None), errors);
-    };
-    let client = client.as_slice();
-    let Ok(scenario) = read(rt, args.scenario.as_str()) else {
-        return fail(first_file_fault(rt.alloc(), server, Some(client)), errors);
-    };
-    let files = Simulation {
-        server,
-        client,
-        scenario: scenario.as_slice(),
-    };
-    let mut stdout = io::writer(rt);
-    let mut output = ToWrite::new(&mut stdout);
-    cmd_simulate(rt.alloc(), &files, &mut output, errors)
+    match read(rt, args.client.as_str()) {
+        Ok(client) => simulate_both(rt, args, server, client.as_slice(), errors),
+        Err(_) => fail(first_file_fault(rt.alloc(), server, None), errors),
+    }
+}
+
+// Runs a simulation whose server and client have the repositories that the two texts describe.
+fn simulate_both<R, E>(rt: &R, args: &Simulate, server: &[u8], client: &[u8], errors: &mut E) -> u8
+where
+    R: Files + Print + AllocGlobal,
+    E: Sink,
+{
+    match read(rt, args.scenario.as_str()) {
+        Ok(scenario) => {
+            let files = Simulation {
+                server,
+                client,
+                scenario: scenario.as_slice(),
+            };
+            let mut stdout = io::writer(rt);
+            let mut output = ToWrite::new(&mut stdout);
+            cmd_simulate(rt.alloc(), &files, &mut output, errors)
+        }
+        Err(_) => fail(first_file_fault(rt.alloc(), server, Some(client)), errors),
+    }
 }
 
 // Returns the fault of the first invalid file among `server` and `client`. If both are valid,

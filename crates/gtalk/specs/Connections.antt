@@ -28,15 +28,15 @@ bytes_in None = []
 bytes_in (Some bytes) = bytes
 
 -- If no bytes were sent before the last turn, the previously flushed bytes stay flushed. Otherwise, all bytes written
--- before the last turn are flushed, if the written and flushed bytes are known.
+-- before the last turn are flushed. This is stated only for known written and flushed bytes.
 abbrev pub HasPassed : Bytes → Option Bytes → Change → Change → Type 0
 HasPassed said between written passed_on =
     ((said ≡ []) × KeepsPassed passed_on)
     ⊎ (IsSome written.old → IsSome passed_on.old
     → (bytes : Bytes) × (more : Bytes) × (between ≡ Some bytes) × (passed_on.new ≡ Some (bytes ++ more)))
 
--- If the call sent bytes, all written bytes are flushed, if the written and flushed bytes are known, and the sink has not
--- failed. Otherwise, the sink is unchanged.
+-- If the call sent bytes, the sink has not failed. All written bytes are then flushed, if the written and flushed bytes
+-- are known. Otherwise, the sink is unchanged.
 abbrev pub HasSent : Bool → Bytes → Change → Change → Bool → Type 0 → Type 0
 HasSent true said written passed_on down Untouched =
     (0 < length said) × (IsSome written.old → PassesAll written.new passed_on) × (down ≡ false)
@@ -164,8 +164,8 @@ module _ {C A : Type 0} where
     pub sent : Appends written.old written.new said
     pub goes : Goes turn holds Leads old new more said
 
-  -- The connection is aborted. At `mid`, the start of its last turn, all queued bytes were sent and flushed. After
-  -- that, a prefix of the bytes queued in the last turn was written.
+  -- The connection is aborted. At `mid`, before its last turn, all queued bytes were sent and flushed. After that, a
+  -- prefix of the bytes queued in the last turn was written.
   pub record BreaksOff (turn : C → Turn) (holds : C → Talk → Type 0) (old new : Connection C A)
       (read written passed_on : Change) : Type 0 where
     pub mid : Connection C A
@@ -210,3 +210,9 @@ abbrev pub LeavesSink : Result Unit TalkFault → Bool → Bool → Type 0
 LeavesSink (Ok done) was_down is_down = is_down ≡ false
 LeavesSink (Err Io) was_down is_down = is_down ≡ true
 LeavesSink (Err Memory) was_down is_down = is_down ≡ was_down
+
+-- after `Io` the sink has failed; after any other result it has failed if and only if it had failed before the call
+abbrev pub IsDownBy : {T : Type 0} → Result T TalkFault → Bool → Bool → Type 0
+IsDownBy (Ok done) was_down is_down = is_down ≡ was_down
+IsDownBy (Err Io) was_down is_down = is_down ≡ true
+IsDownBy (Err Memory) was_down is_down = is_down ≡ was_down

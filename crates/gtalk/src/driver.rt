@@ -4,10 +4,10 @@ ghost use Rattle.std.specs.Prelude.{◌≡◌, ◌≢◌, ◌<◌, ◌≤◌, []
 ghost use Rattle.std.specs.Io.KnownBytes.{Consumes, IsAtEnd, Keeps};
 ghost use Rattle.gpkt.specs.Change.{change_of};
 ghost use Rattle.gpkt.specs.Devices.{KeepsPassed, PassesAll};
-ghost use Rattle.gtalk.specs.Connections.{BreaksOff, Drives, FailsBy, HasDriven, HasRoom, HearsRead, IsDone, IsHeld, LeavesSink, conversation_of, has_stopped, pending_of};
+ghost use Rattle.gtalk.specs.Connections.{BreaksOff, Drives, FailsBy, HasDriven, HasRoom, HearsRead, IsDone, IsHeld, IsDownBy, LeavesSink, conversation_of, has_stopped, pending_of};
 ghost use Rattle.gtalk.specs.Partial.{LeavesSource};
 ghost use Rattle.gtalk.specs.Talks.{AnyTalk, IsNearer};
-ghost use Rattle.gtalk.specs.steps.Driving.{IsDownBy, IsFewer, IsLater, SaysTurn, SendsPending, reading_left};
+ghost use Rattle.gtalk.specs.steps.Driving.{IsFewer, IsLater, SaysTurn, SendsPending, reading_left};
 
 use crate::connection::Connection;
 use crate::conversation::{Conversation, Turn};
@@ -19,7 +19,7 @@ use std::alloc::Allocator;
 const PIECE: usize = 4_096;
 
 /// Runs a conversation to its end. Queued packets are flushed before the next read, and the
-/// connection receives all bytes that were read.
+/// connection receives all bytes that were read. A run that sends nothing still flushes the sink.
 ///
 /// Fails if the sink fails, or if there is no memory for the packets to send. If the source ends or
 /// fails, the conversation is notified, and the call does not fail.
@@ -63,6 +63,9 @@ pub fn drive<C: Conversation, A: Allocator + Copy, S: Source, W: Sink>(
 /// packets. Returns whether it sent bytes.
 ///
 /// A turn that queues no packet is not flushed. If no turn queues a packet, the sink is unchanged.
+///
+/// Fails with `Io` if the sink fails in a turn that queues packets. All packets of earlier turns are
+/// then flushed. Fails with `Memory` if there is not enough memory for the send queue.
 pub fn converse<C: Conversation, A: Allocator + Copy, S: Source, W: Sink>(
     connection: &mut Connection<C, A>,
     source: &mut S,

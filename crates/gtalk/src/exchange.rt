@@ -179,9 +179,10 @@ impl<C: Conversation, A: Allocator + Copy> Connection<C, A> {
     /// Makes the conversation queue its next packets. All packets queued earlier must have been
     /// sent.
     ///
-    /// Fails only with [`TalkFault::Memory`], and only in a call that allocates the send queue: the
-    /// first call, or the first call after [`give_back`](Connection::give_back). After a failure
-    /// the connection is unchanged. A connection with room does not fail.
+    /// Fails only with [`TalkFault::Memory`], if there is not enough memory for the send queue. The
+    /// first call allocates the queue, and so does the first call after
+    /// [`give_back`](Connection::give_back). After a failure the connection is unchanged. A
+    /// connection with room does not fail.
     pub fn speak(&mut self) -> Result<(), TalkFault>
         requires turn { C.turn (conversation_of self.old) ≡ Turn.Speaks }
         requires all_sent { pending_of self.old ≡ [] }
@@ -214,6 +215,7 @@ impl<C: Conversation, A: Allocator + Copy> Connection<C, A> {
     pub fn give_back(&mut self)
         ensures moves { Moves C.holds self.old self.new [] [] }
         ensures pending { pending_of self.new ≡ pending_of self.old }
+        ensures partial { partial_of self.new ≡ partial_of self.old }
         ensures conversation { conversation_of self.new ≡ conversation_of self.old }
         ensures stopped { has_stopped self.new ≡ has_stopped self.old }
     {

@@ -12,8 +12,7 @@ pub enum TalkFault {
     /// The sink failed. A prefix of the bytes of the queued packets was written, perhaps all of
     /// them.
     Io,
-    /// There was not enough memory for the packets to send. The failed call queued no packet, and
-    /// left the conversation unchanged.
+    /// There was not enough memory for the send queue. The failed turn queued no packet.
     Memory,
 }
 

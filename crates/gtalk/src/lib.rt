@@ -10,7 +10,7 @@
 //! # Proved
 //!
 //! - The received bytes are the encodings of the packets that the conversation received, followed
-//!   by a part of the next packet. The sent bytes followed by the pending bytes are the canonical
+//!   by the bytes after the last packet (`IsStopped`). The sent bytes followed by the pending bytes are the canonical
 //!   encoding of the packets that the conversation queued (`Holds` in `specs/Connections.antt`).
 //!   The contract of each call states which bytes the call receives and sends (`Moves`).
 //! - While more packets may arrive, [`Connection::receive_limit`] is at least one byte, and no call
@@ -23,13 +23,13 @@
 //!   bytes that are read, in order. The sink receives all bytes that the connection sends, in
 //!   order. [`drive`] succeeds only if the conversation is done, or if no more packets arrive.
 //!   After success all queued packets are sent and flushed.
-//! - [`drive`] fails with `Io` only if the sink has failed, and with `Memory` only if there is not
-//!   enough memory. After a failure, all packets of earlier turns are flushed, and a prefix of the
-//!   packets of the last turn is written (`BreaksOff`).
+//! - [`drive`] fails with `Io` only if the sink has failed. After a failure, all packets of earlier
+//!   turns are flushed, and a prefix of the packets of the last turn is written (`BreaksOff`).
 //! - [`converse`] calls the sink only in turns that queue packets, and flushes only those turns. If
 //!   it sends no byte, the sink is unchanged (`HasSent`). If the sink fails, the last turn queued at
 //!   least one packet, and all packets of earlier turns are flushed (`FailsInTurn`).
-//! - A connection that uses the buffers of a [`Room`] never runs out of memory (`HasRoom`).
+//! - A connection that uses the buffers of a [`Room`] does not run out of memory (`HasRoom`), until
+//!   [`Connection::give_back`] frees the send queue.
 //! - No byte after the last packet is stored, unless the conversation listens or no more packets
 //!   arrive (`IsClean`).
 //! - [`Outgoing`] appends each packet in its canonical encoding.
@@ -40,8 +40,13 @@
 //! - No contract rules out that an allocation fails, for received bytes or for packets to send,
 //!   unless the connection uses the buffers of a [`Room`].
 //! - No contract rules out that memory is allocated before it is needed, or freed late.
-//! - No contract rules out that [`drive`] leaves sent packets unflushed, if the written or flushed
-//!   bytes of the sink are unknown before the call.
+//! - No contract rules out that a call reports out of memory although memory is available, unless
+//!   the connection uses the buffers of a [`Room`].
+//! - No contract rules out that [`drive`] and [`converse`] leave sent packets unflushed, if the
+//!   written or flushed bytes of the sink are unknown before the call.
+//! - No contract rules out that a turn that queues packets is flushed more than once.
+//! - No contract rules out the data packet `0004`, which has no payload. gitprotocol-common(5) says
+//!   that an implementation should not send it.
 //! - No contract of this crate rules out that an event loop drops a connection or its bytes. Only
 //!   the contract of the event loop can rule this out.
 //!

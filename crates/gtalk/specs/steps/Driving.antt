@@ -54,12 +54,6 @@ IsFewer left old new =
     ((left new.conversation).turns < (left old.conversation).turns)
     ⊎ (((left new.conversation).turns ≤ (left old.conversation).turns) × ((why : Stop) × (new.stopped ≡ Some why)))
 
--- after `Io` the sink has failed; after any other result it has failed if and only if it had failed before the call
-abbrev pub IsDownBy : {T : Type 0} → Result T TalkFault → Bool → Bool → Type 0
-IsDownBy (Ok done) was_down is_down = is_down ≡ was_down
-IsDownBy (Err Io) was_down is_down = is_down ≡ true
-IsDownBy (Err Memory) was_down is_down = is_down ≡ was_down
-
 -- whether a turn queued at least one packet: the bytes that it sent, and the pending bytes
 abbrev pub CountsSent : Result Bool TalkFault → Bytes → Bytes → Type 0 → Type 0
 CountsSent (Ok true) said pending Untouched = 0 < length said

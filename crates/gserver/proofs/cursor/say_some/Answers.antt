@@ -20,4 +20,4 @@ returns-in-Last-clause-says g c =
 pub loop-steps-preserved : goal.loop-steps-preserved
 loop-steps-preserved g c =
     has_more _ _ _ _ _ _ _ c.loop-steps.invariant _ _ c.in-More.ensures
-    (c.if-not-has_room.ensures (search rules))
+    (c.if-not-has_room.ensures.room (search rules))
