@@ -4,9 +4,9 @@ use crate::directory::Directories;
 use gclient::{Ask, Asks, Fetched, RefUpdate, Settled, Spec};
 use ggraph::Refs;
 use gitobjects::{ObjectFiles, QuickReader, StoredFiles};
+use gitrefs::RefFault;
 use gitrepository::{RepositoryFault, check_form};
 use glsreply::{LsReply, RefLine};
-use gname::Oid;
 use std::alloc::{AllocError, Global};
 use std::rt::Files;
 
@@ -26,14 +26,15 @@ where
     if listed.unborn().is_some() {
         return Ok(None);
     }
-    match asks_of(rt.alloc(), specs, listed)? {
-        Some(asks) => report_if_current(rt, found, asks),
-        None => Ok(None),
+    match asks_of(rt.alloc(), specs, listed) {
+        Ok(Some(asks)) => report_if_current(rt, found, asks),
+        Ok(None) => Ok(None),
+        Err(_) => Err(RepositoryFault::Memory),
     }
 }
 
-// Returns the report of a fetch that requests these updates, or `None` if a ref or an object is
-// missing.
+// Returns the report of a fetch that requests these updates, or `None` if a ref is not up to date or
+// its object is missing.
 fn report_if_current<R>(
     rt: &R,
     found: &Directories,
@@ -42,16 +43,16 @@ fn report_if_current<R>(
 where
     R: Files + AllocGlobal,
 {
-    if has_asked(rt, found, &asks)? {
-        report_of(rt.alloc(), asks)
-    } else {
-        Ok(None)
+    match is_up_to_date(rt, found, &asks) {
+        Ok(true) => Ok(Some(report_of(rt.alloc(), asks)?)),
+        Ok(false) => Ok(None),
+        Err(fault) => Err(fault),
     }
 }
 
 // Returns whether each destination ref already has its requested id, and each of these objects
 // exists.
-fn has_asked<R>(
+fn is_up_to_date<R>(
     rt: &R,
     found: &Directories,
     asks: &Asks<Global>,
@@ -61,25 +62,25 @@ where
 {
     let files = StoredFiles::new(rt);
     check_form(&files, rt.alloc(), found.common.as_str())?;
-    if has_refs(rt, found, asks)? {
-        has_objects(rt.alloc(), &files, found, asks)
-    } else {
-        Ok(false)
+    match has_current_refs(rt, found, asks) {
+        Ok(true) => has_objects(rt.alloc(), &files, found, asks),
+        Ok(false) => Ok(false),
+        Err(fault) => Err(RepositoryFault::from(fault)),
     }
 }
 
 // Returns whether each destination ref already has its requested id.
-fn has_refs<R>(
+fn has_current_refs<R>(
     rt: &R,
     found: &Directories,
     asks: &Asks<Global>,
-) -> Result<bool, RepositoryFault<Global>>
+) -> Result<bool, RefFault<Global>>
 where
     R: Files + AllocGlobal,
 {
     match found.refs(rt.alloc(), rt).read_refs() {
         Ok((refs, _head)) => Ok(are_current(asks, &refs)),
-        Err(fault) => Err(RepositoryFault::from(fault)),
+        Err(fault) => Err(fault),
     }
 }
 
@@ -90,16 +91,18 @@ fn has_objects<F: ObjectFiles>(
     found: &Directories,
     asks: &Asks<Global>,
 ) -> Result<bool, RepositoryFault<Global>> {
-    let mut reader = QuickReader::open(files, alloc, found.common.as_str())?;
-    let ids = asks.ids(alloc)?;
-    Ok(holds_all(&mut reader, ids.as_slice())?)
+    match QuickReader::open(files, alloc, found.common.as_str()) {
+        Ok(mut reader) => Ok(holds_asked(alloc, &mut reader, asks)?),
+        Err(fault) => Err(RepositoryFault::from(fault)),
+    }
 }
 
-fn holds_all<F: ObjectFiles>(
+fn holds_asked<F: ObjectFiles>(
+    alloc: Global,
     reader: &mut QuickReader<'_, F, Global>,
-    ids: &[Oid],
+    asks: &Asks<Global>,
 ) -> Result<bool, AllocError> {
-    for id in ids {
+    for id in &asks.ids(alloc)? {
         if !reader.holds(id)? {
             return Ok(false);
         }
@@ -113,7 +116,7 @@ fn asks_of(
     alloc: Global,
     specs: &[Spec<Global>],
     listed: &LsReply<Global>,
-) -> Result<Option<Asks<Global>>, RepositoryFault<Global>> {
+) -> Result<Option<Asks<Global>>, AllocError> {
     let mut asks = Asks::new(alloc);
     for spec in specs {
         if !add_asks(alloc, &mut asks, spec, listed)? {
@@ -130,7 +133,7 @@ fn add_asks(
     asks: &mut Asks<Global>,
     spec: &Spec<Global>,
     listed: &LsReply<Global>,
-) -> Result<bool, RepositoryFault<Global>> {
+) -> Result<bool, AllocError> {
     for index in 0..listed.len() {
         if let Some(line) = listed.at(index) {
             if !add_ask(alloc, asks, spec, line)? {
@@ -148,7 +151,7 @@ fn add_ask(
     asks: &mut Asks<Global>,
     spec: &Spec<Global>,
     line: &RefLine<Global>,
-) -> Result<bool, RepositoryFault<Global>> {
+) -> Result<bool, AllocError> {
     match spec.destination(alloc, &line.name) {
         Ok(Some(name)) => {
             asks.add(Ask {
@@ -172,15 +175,12 @@ fn are_current(asks: &Asks<Global>, refs: &Refs<Global>) -> bool {
 }
 
 // Returns the report of a fetch that changes no ref.
-fn report_of(
-    alloc: Global,
-    asks: Asks<Global>,
-) -> Result<Option<Fetched<Global>>, RepositoryFault<Global>> {
+fn report_of(alloc: Global, asks: Asks<Global>) -> Result<Fetched<Global>, AllocError> {
     let mut updates = Vec::new(alloc);
     updates.resize(asks.len(), RefUpdate::Same)?;
-    Ok(Some(Fetched {
+    Ok(Fetched {
         settled: Settled { asks, updates },
         requests: 0,
         unborn: None,
-    }))
+    })
 }

@@ -464,7 +464,10 @@ fn move_refs<R: Files + AllocGlobal>(
     found: &Directories,
     updates: &[RefMove],
 ) -> Result<(), RepositoryFault<Global>> {
-    Ok(found.refs(rt.alloc(), rt).update_refs(updates)?)
+    match found.refs(rt.alloc(), rt).update_refs(updates) {
+        Ok(()) => Ok(()),
+        Err(fault) => Err(RepositoryFault::from(fault)),
+    }
 }
 
 // Returns the refs that the fetch changes.

@@ -115,7 +115,10 @@ fn find_listed<R: Files, F: ObjectFiles>(
     found: &Directories,
 ) -> Result<PeeledRefs, RepositoryFault<Global>> {
     check_form(files, alloc, found.common.as_str())?;
-    Ok(found.refs(alloc, rt).read_peeled_refs()?)
+    match found.refs(alloc, rt).read_peeled_refs() {
+        Ok(found) => Ok(found),
+        Err(fault) => Err(RepositoryFault::from(fault)),
+    }
 }
 
 /// Opens a repository to answer ls-refs, which needs only the objects that refs and HEAD point to.
@@ -150,26 +153,30 @@ fn read_for_ls_refs<F: ObjectFiles>(
 ) -> Result<Opened, RepositoryFault<Global>> {
     let Listed { found: listed } = listed;
     let path = found.common.as_str();
-    match open_tips(files, alloc, path, &listed)? {
-        Some(tips) => Ok(Opened::Tips(tips)),
-        None => Ok(Opened::Whole(open_whole(alloc, files, path, listed)?)),
+    match open_tips(files, alloc, path, &listed) {
+        Ok(Some(tips)) => Ok(Opened::Tips(tips)),
+        Ok(None) => open_whole(alloc, files, path, listed),
+        Err(fault) => Err(fault),
     }
 }
 
-// Opens the repository at `path`, and returns the history of these refs and this HEAD.
+// Opens the repository at `path`, and reads the history of these refs and this HEAD.
 fn open_whole<F: ObjectFiles>(
     alloc: Global,
     files: &F,
     path: &str,
     listed: PeeledRefs,
-) -> Result<Repository<Global>, RepositoryFault<Global>> {
+) -> Result<Opened, RepositoryFault<Global>> {
     let mut reader = open_reader(alloc, files, path)?;
     let PeeledRefs {
         refs,
         head,
         peels: _peels,
     } = listed;
-    read_history(files, path, &mut reader, &refs, head)
+    match read_history(files, path, &mut reader, &refs, head) {
+        Ok(whole) => Ok(Opened::Whole(whole)),
+        Err(fault) => Err(fault),
+    }
 }
 
 fn is_same_head(one: &Head<Global>, other: &Head<Global>) -> bool {

@@ -158,15 +158,15 @@ pub(crate) enum Sentence<'a> {
 
 impl fmt::Display for Sentence<'_> {
     fn fmt<W: fmt::Write>(&self, f: &mut fmt::Formatter<W>) -> fmt::Result {
-        match self {
+        match *self {
             Sentence::Text(text) => f.write_str(text),
-            Sentence::Named { name, words } => write_named(name, *words, f),
+            Sentence::Named { name, words } => write_named(name, words, f),
             Sentence::Ref { name, words } => write_ref(name, words, f),
             Sentence::System { call, name, error } => write_refused(call, name, error, f),
             Sentence::Repository { path, fault } => write_repository(path, fault, f),
             Sentence::BrokenRef { path, name, fault } => write_broken_ref(path, name, fault, f),
-            Sentence::Build { path, fault } => write_cause("cannot serve ", path, *fault, f),
-            Sentence::Client { path, fault } => write_cause(NO_FETCH_INTO, path, *fault, f),
+            Sentence::Build { path, fault } => write_cause("cannot serve ", path, fault, f),
+            Sentence::Client { path, fault } => write_cause(NO_FETCH_INTO, path, fault, f),
             Sentence::Fetch { url, fault } => write_fetch(url, fault, f),
             Sentence::NoRef { url, name } => write_no_ref(url, name, f),
             Sentence::RefusedPack { url, fault } => write_refused_pack(url, fault, f),
