@@ -11,7 +11,7 @@ use crate::fetching::{Fetch, StoredFetch, Wanted, progress_of, receive};
 use crate::opening::repository_fault;
 use crate::progress::Progress;
 use crate::remote::{Remote, tips_of};
-use crate::sentences::{OCCUPIED, Sentence};
+use crate::sentences::OCCUPIED;
 use gclient::{Repo, Spec};
 use ggraph::{Head, Refs, Target};
 use gitrefs::{Cause, RefFault};
@@ -103,23 +103,14 @@ fn check_vacant<R: Files + AllocGlobal>(rt: &R, dir: &str) -> Result<(), Fault> 
     match fs::read_dir(&(rt, &alloc), dir) {
         Ok(mut entries) => match entries.next() {
             None => Ok(()),
-            Some(_) => Err(occupied(alloc, dir)),
+            Some(_) => Err(Fault::about(alloc, dir, OCCUPIED)),
         },
         Err(error) if error.kind() == ErrorKind::NotFound => Ok(()),
-        Err(error) if error.kind() == ErrorKind::NotADirectory => Err(occupied(alloc, dir)),
+        Err(error) if error.kind() == ErrorKind::NotADirectory => {
+            Err(Fault::about(alloc, dir, OCCUPIED))
+        }
         Err(error) => Err(open_fault(alloc, dir, &error)),
     }
-}
-
-// Returns the fault for a path that exists and is not an empty directory.
-fn occupied(alloc: Global, dir: &str) -> Fault {
-    Fault::of(
-        alloc,
-        Sentence::Named {
-            name: dir,
-            words: OCCUPIED,
-        },
-    )
 }
 
 fn prefixes(alloc: Global) -> Result<Vec<Prefix>, Fault> {
@@ -276,7 +267,7 @@ fn make_fault(alloc: Global, dir: &str, fault: &RepositoryFault<Global>) -> Faul
                 cause: Cause::Exists,
                 ..
             },
-        ) => occupied(alloc, dir),
+        ) => Fault::about(alloc, dir, OCCUPIED),
         _ => repository_fault(alloc, dir, fault),
     }
 }

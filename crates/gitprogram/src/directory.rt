@@ -1,7 +1,7 @@
 //! Finding the repository at a path.
 
 use crate::fault::Fault;
-use crate::sentences::{NO_REPOSITORY, Sentence};
+use crate::sentences::NO_REPOSITORY;
 use gitobjects::StoredFiles;
 use gitrefs::{GitDirectory, parse_common_dir, parse_git_file};
 use gitrepository::is_bare;
@@ -87,13 +87,7 @@ where
             return Ok(found);
         }
     }
-    Err(Fault::of(
-        rt.alloc(),
-        Sentence::Named {
-            name: path,
-            words: NO_REPOSITORY,
-        },
-    ))
+    Err(Fault::about(rt.alloc(), path, NO_REPOSITORY))
 }
 
 fn with_ending(alloc: Global, path: &str, ending: Ending) -> Result<String, AllocError> {
@@ -307,14 +301,7 @@ fn exists<R: Files + AllocGlobal>(rt: &R, directory: &str, name: &str) -> Result
 
 /// Returns the fault for a file that the system cannot open.
 pub(crate) fn open_fault(alloc: Global, path: &str, error: &io::Error) -> Fault {
-    Fault::of(
-        alloc,
-        Sentence::System {
-            call: "open ",
-            name: path,
-            error,
-        },
-    )
+    Fault::of_call(alloc, "open ", path, error)
 }
 
 // Returns whether an error means that the file does not exist.

@@ -1,9 +1,9 @@
 //! The faults of the commands.
 
-use crate::sentences::Sentence;
+use crate::sentences::{Sentence, Words};
 use gname::OUT_OF_MEMORY_TEXT;
 use std::alloc::{AllocError, AllocFailed, Global};
-use std::fmt;
+use std::{fmt, io};
 
 /// The reason for a failed command, which is printed on one line after the program name.
 #[derive(Drop)]
@@ -21,6 +21,27 @@ impl Fault {
             Ok(text) => Fault::Said(text),
             Err(_) => Fault::Memory,
         }
+    }
+
+    /// Returns the fault for a system call that failed. The text `call` ends with a space, and
+    /// `name` is the name of a file or an address.
+    pub(crate) fn of_call(
+        alloc: Global,
+        call: &'static str,
+        name: &str,
+        error: &io::Error,
+    ) -> Fault {
+        Fault::of(alloc, Sentence::System { call, name, error })
+    }
+
+    /// Returns the fault with these words about a path or URL.
+    pub(crate) fn about(alloc: Global, name: &str, words: Words) -> Fault {
+        Fault::of(alloc, Sentence::Named { name, words })
+    }
+
+    /// Returns the fault with these words about a ref that a fetch does not update.
+    pub(crate) fn about_ref(alloc: Global, name: &[u8], words: &'static str) -> Fault {
+        Fault::of(alloc, Sentence::Ref { name, words })
     }
 }
 

@@ -404,13 +404,7 @@ fn check_head_branch(alloc: Global, head: &Head<Global>, updates: &[RefMove]) ->
 
 fn check_branch(alloc: Global, branch: &RefName<Global>, updates: &[RefMove]) -> Result<(), Fault> {
     if updates.iter().any(|update| update.name == *branch) {
-        return Err(Fault::of(
-            alloc,
-            Sentence::Ref {
-                name: branch.as_bytes(),
-                words: CHECKED_OUT,
-            },
-        ));
+        return Err(Fault::about_ref(alloc, branch.as_bytes(), CHECKED_OUT));
     }
     Ok(())
 }
@@ -420,13 +414,7 @@ fn check_names(alloc: Global, updates: &[RefMove]) -> Result<(), Fault> {
     for update in updates {
         let name = update.name.as_bytes();
         if str::from_utf8(name).is_err() {
-            return Err(Fault::of(
-                alloc,
-                Sentence::Ref {
-                    name,
-                    words: NO_FILE_NAME,
-                },
-            ));
+            return Err(Fault::about_ref(alloc, name, NO_FILE_NAME));
         }
     }
     Ok(())
@@ -496,13 +484,7 @@ fn check_moved(alloc: Global, fetched: &Fetched<Global>) -> Result<(), Fault> {
     for (index, update) in settled.updates.iter().enumerate() {
         if let RefUpdate::NotForward = update {
             if let Some((name, _id)) = settled.asks.at(index) {
-                return Err(Fault::of(
-                    alloc,
-                    Sentence::Ref {
-                        name: name.as_bytes(),
-                        words: NOT_FORWARD,
-                    },
-                ));
+                return Err(Fault::about_ref(alloc, name.as_bytes(), NOT_FORWARD));
             }
         }
     }
@@ -661,13 +643,7 @@ fn check_commits<R: Files>(
         }
         let name = pair.0.as_bytes();
         if name.starts_with(BRANCHES) && !is_commit(alloc, wanted.remote, indexer, &pair.1)? {
-            return Err(Fault::of(
-                alloc,
-                Sentence::Ref {
-                    name,
-                    words: NO_COMMIT,
-                },
-            ));
+            return Err(Fault::about_ref(alloc, name, NO_COMMIT));
         }
         if name == wanted.head_ref {
             check_head_commit(alloc, wanted.remote, client, indexer, &pair.1)?;
@@ -688,13 +664,7 @@ fn check_head_commit<R: Files>(
     if is_commit(alloc, remote, indexer, &id)? {
         return Ok(());
     }
-    Err(Fault::of(
-        alloc,
-        Sentence::Named {
-            name: remote.url.as_str(),
-            words: NO_HEAD_COMMIT,
-        },
-    ))
+    Err(Fault::about(alloc, remote.url.as_str(), NO_HEAD_COMMIT))
 }
 
 // Returns whether an object, received or already present, is a commit.

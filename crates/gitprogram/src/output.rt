@@ -35,14 +35,7 @@ impl<W: Write> Output<W> {
     /// Returns the fault for a failed write. The cause is the error of the last one.
     pub(crate) fn take_fault(&mut self, alloc: Global) -> Fault {
         match self.error.take() {
-            Some(error) => Fault::of(
-                alloc,
-                Sentence::System {
-                    call: "write to ",
-                    name: "standard output",
-                    error: &error,
-                },
-            ),
+            Some(error) => Fault::of_call(alloc, "write to ", "standard output", &error),
             None => Fault::of(alloc, Sentence::Text(NO_OUTPUT)),
         }
     }

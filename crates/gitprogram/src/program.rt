@@ -55,7 +55,7 @@ where
 {
     let words = match arguments(rt) {
         Ok(words) => words,
-        Err(kind) => return refuse_arguments(rt, kind, stderr),
+        Err(kind) => return refuse_arguments(rt.alloc(), kind, stderr),
     };
     match read_words(rt.alloc(), words.as_slice()) {
         Ok(command) => {
@@ -77,12 +77,12 @@ fn arguments<R: Env + AllocGlobal>(rt: &R) -> Result<Vec<String>, ErrorKind> {
 }
 
 // Prints why the arguments cannot be read, and returns the exit status.
-fn refuse_arguments<R: AllocGlobal, W: Write>(rt: &R, kind: ErrorKind, errors: &mut W) -> u8 {
+fn refuse_arguments<W: Write>(alloc: Global, kind: ErrorKind, errors: &mut W) -> u8 {
     if kind == ErrorKind::OutOfMemory {
-        return finish(rt.alloc(), Err(Fault::Memory), errors);
+        return finish(alloc, Err(Fault::Memory), errors);
     }
-    let fault = Fault::of(rt.alloc(), Sentence::Text(NOT_TEXT));
-    let _ = finish(rt.alloc(), Err(fault), errors);
+    let fault = Fault::of(alloc, Sentence::Text(NOT_TEXT));
+    let _ = finish(alloc, Err(fault), errors);
     WRONG_USAGE
 }
 

@@ -21,6 +21,12 @@ const REMOTE: &[u8] = b"remote: ";
 pub(crate) struct Progress<'e, E> {
     errors: &'e mut E,
     is_shown: bool,
+    lines: ProgressLines,
+}
+
+// The lines of a progress display.
+#[derive(Drop)]
+struct ProgressLines {
     packets: Packets,
     pack: PackSeen,
     // The number of pack bytes at the last update.
@@ -60,17 +66,13 @@ impl<'e, E: Write> Progress<'e, E> {
         Progress {
             errors,
             is_shown,
-            packets: Packets::new(),
-            pack: NO_PACK,
-            shown: 0,
-            line: Line::New,
-            text: Vec::new(alloc),
+            lines: ProgressLines::new(alloc),
         }
     }
 
     /// Returns the allocator of the text that is printed.
     pub(crate) fn allocator(&self) -> Global {
-        *self.text.allocator()
+        *self.lines.text.allocator()
     }
 
     /// Returns whether the progress is shown.
@@ -84,11 +86,32 @@ impl<'e, E: Write> Progress<'e, E> {
         if !self.is_shown {
             return;
         }
-        let _ = self.parse_all(bytes);
-        let _ = self.errors.write_all(self.text.as_slice());
-        self.text.clear();
+        let _ = self.lines.parse_all(bytes);
+        let _ = self.errors.write_all(self.lines.text.as_slice());
+        self.lines.text.clear();
     }
 
+    /// Ends the unfinished line, if there is one.
+    pub(crate) fn finish(&mut self) {
+        if self.lines.line != Line::New {
+            let _ = self.errors.write_all(b"\n");
+            self.lines.line = Line::New;
+        }
+    }
+}
+
+impl ProgressLines {
+    fn new(alloc: Global) -> ProgressLines {
+        ProgressLines {
+            packets: Packets::new(),
+            pack: NO_PACK,
+            shown: 0,
+            line: Line::New,
+            text: Vec::new(alloc),
+        }
+    }
+
+    // Appends to the text what these bytes from the server change on the display.
     fn parse_all(&mut self, bytes: &[u8]) -> Result<(), AllocError> {
         let mut rest = bytes;
         for _ in 0..bytes.len() {
@@ -145,7 +168,7 @@ impl<'e, E: Write> Progress<'e, E> {
     fn put_pack(&mut self, end: &str) -> Result<(), AllocError> {
         let objects = self.pack.objects;
         let size = Size(self.pack.bytes);
-        let line = format!(in self.allocator(); "Receiving objects: {objects}, {size}{end}")?;
+        let line = format!(in *self.text.allocator(); "Receiving objects: {objects}, {size}{end}")?;
         self.text.extend_from_slice(line.as_bytes())
     }
 
@@ -169,14 +192,6 @@ impl<'e, E: Write> Progress<'e, E> {
             self.line = Line::New;
         }
         Ok(())
-    }
-
-    /// Ends the unfinished line, if there is one.
-    pub(crate) fn finish(&mut self) {
-        if self.line != Line::New {
-            let _ = self.errors.write_all(b"\n");
-            self.line = Line::New;
-        }
     }
 }
 

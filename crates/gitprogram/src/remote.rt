@@ -34,13 +34,7 @@ impl Remote {
                 hello,
                 address,
             }),
-            Err(_) => Err(Fault::of(
-                alloc,
-                Sentence::Named {
-                    name: text.as_str(),
-                    words: BAD_ADDRESS,
-                },
-            )),
+            Err(_) => Err(Fault::about(alloc, text.as_str(), BAD_ADDRESS)),
         }
     }
 
@@ -48,14 +42,7 @@ impl Remote {
     pub(crate) fn connect<N: Net>(&self, net: &N, alloc: Global) -> Result<N::Stream, Fault> {
         match connect_to(net, self.address.as_str()) {
             Ok(stream) => Ok(stream),
-            Err(error) => Err(Fault::of(
-                alloc,
-                Sentence::System {
-                    call: "connect to ",
-                    name: self.url.as_str(),
-                    error: &error,
-                },
-            )),
+            Err(error) => Err(Fault::of_call(alloc, "connect to ", self.url.as_str(), &error)),
         }
     }
 

@@ -104,15 +104,7 @@ impl<'d, D> Repositories<'d, D> {
 
     // Records why a repository cannot be opened, and returns the error text for the client.
     fn refuse(&self, cause: NotOpened) -> ErrText {
-        let mut text = ErrText::new();
-        match cause.form {
-            Some(form) => {
-                text.add(b"upload-pack: the repository ");
-                text.add(form_text(form).as_bytes());
-            }
-            None if cause.is_busy => text.add(BUSY),
-            None => text.add(NOT_OPENED),
-        }
+        let text = not_opened_text(&cause);
         self.notes.note_fault(cause.fault);
         text
     }
@@ -128,10 +120,7 @@ impl<'d, D: Disk> Repositories<'d, D> {
             Err(fault) => fault,
         };
         self.notes.note_fault(fault);
-        let mut text = ErrText::new();
-        text.add(NOT_SERVED);
-        text.add(path);
-        Err(text)
+        Err(not_served_text(path))
     }
 
     // Reads the refs and HEAD in these directories. Returns the cached repository if it has these
@@ -248,27 +237,55 @@ impl<'d, D: Disk> Host<Global, Shared<'d, D>> for Repositories<'d, D> {
     }
 
     fn words(&self, fault: &ServeFault) -> ErrText {
-        let mut text = ErrText::new();
-        match fault {
-            ServeFault::Request(
-                MessageFault {
-                    why: Why::Limit,
-                    ..
-                },
-            ) => text.add(TOO_LARGE_REQUEST),
-            ServeFault::Pack(_) => text.add(PACK_FAILED),
-            ServeFault::Request(
-                MessageFault {
-                    why: Why::BadText,
-                    ..
-                },
-            ) if self.notes.is_first() => text.add(BAD_FIRST_LINE),
-            _ => {
-                let mut line = [0; MAX_ERR_TEXT];
-                let length = err_text(fault, &mut line);
-                text.add(&line[..length]);
-            }
-        }
-        text
+        refused_text(fault, self.notes.is_first())
     }
+}
+
+// Returns the error text for a path that does not name a served repository.
+fn not_served_text(path: &[u8]) -> ErrText {
+    let mut text = ErrText::new();
+    text.add(NOT_SERVED);
+    text.add(path);
+    text
+}
+
+// Returns the error text for a repository that cannot be opened.
+fn not_opened_text(cause: &NotOpened) -> ErrText {
+    let mut text = ErrText::new();
+    match cause.form {
+        Some(form) => {
+            text.add(b"upload-pack: the repository ");
+            text.add(form_text(form).as_bytes());
+        }
+        None if cause.is_busy => text.add(BUSY),
+        None => text.add(NOT_OPENED),
+    }
+    text
+}
+
+// Returns the error text for a refused message, which is the first line of a connection if
+// `is_first` is set.
+fn refused_text(fault: &ServeFault, is_first: bool) -> ErrText {
+    let mut text = ErrText::new();
+    match fault {
+        ServeFault::Request(
+            MessageFault {
+                why: Why::Limit,
+                ..
+            },
+        ) => text.add(TOO_LARGE_REQUEST),
+        ServeFault::Pack(_) => text.add(PACK_FAILED),
+        ServeFault::Request(
+            MessageFault {
+                why: Why::BadText,
+                ..
+            },
+        ) if is_first => text.add(BAD_FIRST_LINE),
+        _ => {
+            let mut line = [0; MAX_ERR_TEXT];
+            let length = err_text(fault, &mut line);
+            text.add(&line[..length]);
+        }
+    }
+    text
 }

@@ -8,7 +8,6 @@ use crate::notes::Notes;
 use crate::output::{print, write_line};
 use crate::refusals::{ADDRESS_LIMIT, FULL};
 use crate::repositories::{ClosesStores, Repositories};
-use crate::sentences::Sentence;
 use crate::shared::{RecordsFault, Shared};
 use crate::stored::{ServedFrom, Stored};
 use crate::visits::{Held, begin, log_ended};
@@ -43,14 +42,7 @@ where
 
 // Returns the fault for connections that cannot be accepted, because a system call failed.
 fn accept_fault(alloc: Global, error: &io::Error) -> Fault {
-    Fault::of(
-        alloc,
-        Sentence::System {
-            call: "accept ",
-            name: "connections",
-            error,
-        },
-    )
+    Fault::of_call(alloc, "accept ", "connections", error)
 }
 
 // Serves the repositories to clients, reading objects from `files`.
@@ -238,14 +230,7 @@ fn check_base<R: Files + AllocGlobal>(rt: &R, base: &str) -> Result<(), Fault> {
 fn listen<R: Net + AllocGlobal>(rt: &R, address: &str) -> Result<TcpListener, Fault> {
     match bind_first(rt, address) {
         Ok(listener) => Ok(listener),
-        Err(error) => Err(Fault::of(
-            rt.alloc(),
-            Sentence::System {
-                call: "listen at ",
-                name: address,
-                error: &error,
-            },
-        )),
+        Err(error) => Err(Fault::of_call(rt.alloc(), "listen at ", address, &error)),
     }
 }
 
