@@ -194,18 +194,29 @@ where
     let Some(common) = common_of(rt, own.as_str())? else {
         return Ok(None);
     };
-    if exists(rt, own.as_str(), "HEAD")?
-        && exists(rt, common.as_str(), "objects")?
-        && exists(rt, common.as_str(), "refs")?
-    {
-        Ok(Some(Directories {
+    match is_repository(rt, own.as_str(), common.as_str()) {
+        Ok(true) => Ok(Some(Directories {
             own,
             common,
             is_linked,
-        }))
-    } else {
-        Ok(None)
+        })),
+        Ok(false) => Ok(None),
+        Err(fault) => Err(fault),
     }
+}
+
+// Returns whether HEAD, the objects and the refs of a repository exist.
+fn is_repository<R>(rt: &R, own: &str, common: &str) -> Result<bool, Fault>
+where
+    R: Files + AllocGlobal,
+{
+    if !exists(rt, own, "HEAD")? {
+        return Ok(false);
+    }
+    if !exists(rt, common, "objects")? {
+        return Ok(false);
+    }
+    exists(rt, common, "refs")
 }
 
 // Returns whether the last component of a path is `.git`, ignoring slashes at the end.

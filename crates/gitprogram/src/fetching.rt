@@ -642,14 +642,28 @@ fn check_commits<R: Files>(
             continue;
         }
         let name = pair.0.as_bytes();
-        if name.starts_with(BRANCHES) && !is_commit(alloc, wanted.remote, indexer, &pair.1)? {
-            return Err(Fault::about_ref(alloc, name, NO_COMMIT));
+        if name.starts_with(BRANCHES) {
+            check_branch_commit(alloc, wanted.remote, indexer, name, &pair.1)?;
         }
         if name == wanted.head_ref {
             check_head_commit(alloc, wanted.remote, client, indexer, &pair.1)?;
         }
     }
     Ok(())
+}
+
+// Fails if this object is not a commit. A branch with this name would point to the object.
+fn check_branch_commit<R: Files>(
+    alloc: Global,
+    remote: &Remote,
+    indexer: &StoredIndexer<'_, '_, '_, R>,
+    name: &[u8],
+    id: &Oid,
+) -> Result<(), Fault> {
+    if is_commit(alloc, remote, indexer, id)? {
+        return Ok(());
+    }
+    Err(Fault::about_ref(alloc, name, NO_COMMIT))
 }
 
 // Fails if this object does not peel to a commit. The HEAD of a clone points to the peeled object.
