@@ -34,10 +34,7 @@ impl<W: Write> Output<W> {
 
     /// Returns the fault for a failed write. The cause is the error of the last one.
     pub(crate) fn take_fault(&mut self, alloc: Global) -> Fault {
-        match self.error.take() {
-            Some(error) => Fault::of_call(alloc, "write to ", "standard output", &error),
-            None => Fault::of(alloc, Sentence::Text(NO_OUTPUT)),
-        }
+        output_fault(alloc, self.error.take())
     }
 
     // Writes the front of the bytes.
@@ -70,6 +67,14 @@ impl<W: Write> Write for Output<W> {
 
     fn flush(&mut self) -> io::Result<()> {
         self.writer.flush()
+    }
+}
+
+// Returns the fault for a failed write to standard output, whose error may be unknown.
+fn output_fault(alloc: Global, error: Option<io::Error>) -> Fault {
+    match error {
+        Some(error) => Fault::of_call(alloc, "write to ", "standard output", &error),
+        None => Fault::of(alloc, Sentence::Text(NO_OUTPUT)),
     }
 }
 
