@@ -1,5 +1,5 @@
 -- The steps of a dialogue: receiving a packet, and queuing packets.
-use Rattle.std.proofs.Common.{◌≡◌, ℕ, ◌+◌, ◌<◌, ◌^◌, Bool, true, false, List, [], ◌∷◌, ◌++◌, length, Option, Some, None, Result, Ok, Err, refl, sym, ap, ◌∙◌, subst, append-nil, append_assoc}
+use Rattle.std.proofs.Common.{◌≡◌, ℕ, ◌+◌, ◌<◌, ◌^◌, Bool, true, false, List, [], ◌∷◌, ◌++◌, length, Option, Some, None, Result, Ok, Err, inl, inr, refl, sym, ap, ◌∙◌, subst, append-nil, append_assoc}
 use Rattle.std.proofs.lemmas.List.{length_push}
 use Rattle.gpkt.specs.Packets.{Bytes, Packet}
 use Rattle.ggrammar.specs.Grammar.{Judge, LawsOf, IsOpen, IsWhole}
@@ -14,10 +14,13 @@ use Rattle.gdialogue.specs.declared.side.Said.{Said}
 use Rattle.gdialogue.specs.declared.side.Said.TheVariants as said
 use Rattle.gdialogue.specs.declared.side.Answer.{Answer}
 use Rattle.gdialogue.specs.declared.side.Answer.TheVariants as answer
-use Rattle.gdialogue.specs.Dialogues.{Answered, HasEnded, HoldsEnding, HoldsHearing, HoldsSaying, HoldsStage, IsRefused, IsSoFar, reason_of}
+use Rattle.gdialogue.specs.Dialogues.{Answered, HasEnded, HoldsEnding, HoldsHearing, HoldsSaying, HasReplied, HoldsStage, IsRefused, reason_of}
 use Rattle.gdialogue.specs.Dialogues as dialogue
 use Rattle.gdialogue.specs.declared.dialogue.DialogueStage.{DialogueStage}
 use Rattle.gdialogue.specs.declared.dialogue.DialogueStage.TheVariants as stage
+
+with_part : (talk : Talk) (part more : List Packet) → talk.said ≡ talk.earlier ++ part → talk.said ++ more ≡ talk.earlier ++ (part ++ more)
+with_part talk part more all = ap (λ l. l ++ more) all ∙ append_assoc talk.earlier part more
 
 module _ {S M R : Type 0} (judge : S → Judge) (brings : S → List Packet → Packet → Bool)
     (opens : S → List Packet → Bool → Type 0) (answers : S → List Packet → List Packet → Bool → S → Type 0)
@@ -35,11 +38,35 @@ module _ {S M R : Type 0} (judge : S → Judge) (brings : S → List Packet → 
   abbrev Stands : S → DialogueStage M R → Talk → Type 0
   Stands = HoldsStage judge brings opens answers refuses hears may
 
-  abbrev SoFar : S → Bool → List Packet → Option Stop → List Packet → S → Type 0
-  SoFar = IsSoFar judge brings opens answers refuses
+  abbrev Replied : S → List Packet → Option Stop → List Packet → List Packet → Bool → S → Type 0
+  Replied = HasReplied judge brings opens answers refuses
 
-  abbrev Ended : S → List Packet → Option Stop → List Packet → S → Type 0
-  Ended = HasEnded judge brings opens answers refuses
+  -- a latest answer after which the dialogue continues
+  answered_so : (first : S) (heard before reply : List Packet) (stop : Option Stop) (goes : Bool) (side : S) → Replied first heard stop before reply goes side
+      → goes ≡ true → Answered judge brings opens answers refuses first heard (before ++ reply) side × (stop ≡ None)
+  answered_so first heard before reply stop goes side (dialogue.HasReplied.opened said on h) is =
+      (dialogue.Answered.opened said (subst (opens first said) is h), refl)
+  answered_so first heard before reply stop goes side (dialogue.HasReplied.answered so_far so_said lines said on mid last a w h) is =
+      (dialogue.Answered.more so_far so_said lines said mid last a w (subst (λ g. answers mid lines said g last) is h), refl)
+  answered_so first heard before reply stop goes side (dialogue.HasReplied.refused so_far so_said lines said why fault mid last a r h) is = absurd (cc is)
+
+  -- a latest answer after which the dialogue does not continue
+  pub ended_so : (first : S) (heard before reply : List Packet) (stop : Option Stop) (goes : Bool) (side : S) → Replied first heard stop before reply goes side
+      → goes ≡ false → HasEnded judge brings opens answers refuses first heard stop (before ++ reply) side
+  ended_so first heard before reply stop goes side (dialogue.HasReplied.opened said on h) is =
+      dialogue.HasEnded.opened said (subst (opens first said) is h)
+  ended_so first heard before reply stop goes side (dialogue.HasReplied.answered so_far so_said lines said on mid last a w h) is =
+      dialogue.HasEnded.last so_far so_said lines said mid last a w (subst (λ g. answers mid lines said g last) is h)
+  ended_so first heard before reply stop goes side (dialogue.HasReplied.refused so_far so_said lines said why fault mid last a r h) is =
+      dialogue.HasEnded.refused so_far so_said lines said why fault mid last a r h
+
+  -- equal lists of packets and equal stop reasons describe the same answer
+  replied_so : (first after : S) (heard all before reply : List Packet) (stop stopped : Option Stop) (goes : Bool) → all ≡ heard → stopped ≡ stop
+      → Replied first heard stop before reply goes after
+      → Replied first all stopped before reply goes after
+  replied_so first after heard all before reply stop stopped goes is same h =
+      subst (λ l. Replied first l stopped before reply goes after) (sym is)
+      (subst (λ s. Replied first heard s before reply goes after) (sym same) h)
 
   pub begins : (side : S) (message : M) → hears side message []
       → LawsOf (judge side) → opens side [] true → Hearing side message 0 no_talk
@@ -53,6 +80,7 @@ module _ {S M R : Type 0} (judge : S → Judge) (brings : S → List Packet → 
     held = held;
     count = refl;
     unstopped = refl;
+    latest = inl refl;
   }
 
   -- the contract of a side that adds a packet to a message, for every list of earlier packets
@@ -90,6 +118,7 @@ module _ {S M R : Type 0} (judge : S → Judge) (brings : S → List Packet → 
         held = t.1;
         count = counts few ∙ ap (λ n. n + 1) h.count ∙ sym (length_push h.front packet);
         unstopped = h.unstopped;
+        latest = inl refl;
       }
 
   whole_message : (side : S) (message new : M) (frame : ℕ) (packet : Packet) (result : Result Step Why) (talk : Talk)
@@ -102,38 +131,14 @@ module _ {S M R : Type 0} (judge : S → Judge) (brings : S → List Packet → 
   -- if `opens` allows all packets that may complete this reply, a new dialogue may send the reply first
   pub opens_with : (side : S) (reply : R) → ((packets : List Packet) (goes : Bool) → may reply packets goes → opens side packets goes)
       → Saying side reply no_talk
-  opens_with side reply opened = record { first = side; due = λ rest goes h. so_far rest goes (opened rest goes h) }
-    where
-      so_far : (rest : List Packet) (goes : Bool) → opens side rest goes → SoFar side goes [] None ([] ++ rest) side
-      so_far rest true h = (dialogue.Answered.opened rest h, refl)
-      so_far rest false h = dialogue.HasEnded.opened rest h
+  opens_with side reply opened =
+      record { first = side; part = []; all = refl; due = λ rest goes h. dialogue.HasReplied.opened rest goes (opened rest goes h) }
 
   -- the contract of a side that answers a message
   abbrev AnswersIt : S → M → Answer R → S → Type 0
   AnswersIt side message result after = (lines packets : List Packet) (goes : Bool)
       → IsWhole (judge side) lines → hears side message lines
       → MayAnswer may result packets goes → answers side lines packets goes after
-
-  -- equal lists of packets and equal stop reasons describe the same ending of a dialogue
-  ends_so : (first after : S) (heard all said : List Packet) (stop stopped : Option Stop) → all ≡ heard → stopped ≡ stop
-      → Ended first heard stop said after
-      → Ended first all stopped said after
-  ends_so first after heard all said stop stopped is same h =
-      subst (λ l. Ended first l stopped said after) (sym is)
-      (subst (λ s. Ended first heard s said after) (sym same) h)
-
-  -- the dialogue up to and including an answer that the side permits
-  answered_so : (side after : S) (first : S) (heard lines : List Packet) (packets rest : List Packet) (all : List Packet) (stopped : Option Stop) (goes : Bool)
-      → Answered judge brings opens answers refuses first heard packets side → IsWhole (judge side) lines → answers side lines rest goes after
-      → all ≡ heard ++ lines → stopped ≡ None → SoFar first goes all stopped (packets ++ rest) after
-  answered_so side after first heard lines packets rest all stopped true so_far whole says is same = (
-    subst (λ l. Answered judge brings opens answers refuses first l (packets ++ rest) after) (sym is)
-        (dialogue.Answered.more heard packets lines rest side after so_far whole says),
-    same,
-  )
-  answered_so side after first heard lines packets rest all stopped false so_far whole says is same =
-      ends_so first after (heard ++ lines) all (packets ++ rest) None stopped is same
-      (dialogue.HasEnded.last heard packets lines rest side after so_far whole says)
 
   pub answers_message : (side after : S) (message new : M) (frame : ℕ) (packet : Packet) (result : Result Step Why) (answered : Answer R) (reply : R)
       → Takes side message new packet result → result ≡ Ok step.Whole → AnswersIt side new answered after → answered ≡ answer.GoesOn reply
@@ -143,10 +148,13 @@ module _ {S M R : Type 0} (judge : S → Judge) (brings : S → List Packet → 
       let lines = h.front ++ packet ∷ [] in
       record {
         first = h.first;
+        part = [];
+        all = sym (append-nil talk.said);
         due = λ rest goes may_say.
-            answered_so side after h.first h.heard lines talk.said rest (talk.heard ++ packet ∷ []) talk.stopped goes h.answered w.0
-            (does lines rest goes w.0 w.1 (subst (λ a. MayAnswer may a rest goes) (sym same) may_say))
-            (with_packet side message frame packet talk h) h.unstopped;
+            replied_so h.first after (h.heard ++ lines) (talk.heard ++ packet ∷ []) talk.said rest None talk.stopped goes
+            (with_packet side message frame packet talk h) h.unstopped
+            (dialogue.HasReplied.answered h.heard talk.said lines rest goes side after h.answered w.0
+            (does lines rest goes w.0 w.1 (subst (λ a. MayAnswer may a rest goes) (sym same) may_say)));
       }
 
   pub answers_last : (side after : S) (message new : M) (frame : ℕ) (packet : Packet) (result : Result Step Why) (answered : Answer R) (reply : R)
@@ -157,10 +165,13 @@ module _ {S M R : Type 0} (judge : S → Judge) (brings : S → List Packet → 
       let lines = h.front ++ packet ∷ [] in
       record {
         first = h.first;
+        part = [];
+        all = sym (append-nil talk.said);
         due = λ rest goes may_say.
-            answered_so side after h.first h.heard lines talk.said rest (talk.heard ++ packet ∷ []) talk.stopped false h.answered w.0
-            (does lines rest false w.0 w.1 (subst (λ a. MayAnswer may a rest false) (sym same) (refl, (goes, may_say))))
-            (with_packet side message frame packet talk h) h.unstopped;
+            replied_so h.first after (h.heard ++ lines) (talk.heard ++ packet ∷ []) talk.said rest None talk.stopped false
+            (with_packet side message frame packet talk h) h.unstopped
+            (dialogue.HasReplied.answered h.heard talk.said lines rest false side after h.answered w.0
+            (does lines rest false w.0 w.1 (subst (λ a. MayAnswer may a rest false) (sym same) (refl, (goes, may_say)))));
       }
 
   -- the contract of a side that refuses a message
@@ -172,10 +183,10 @@ module _ {S M R : Type 0} (judge : S → Judge) (brings : S → List Packet → 
       (talk : Talk) (h : Hearing side message frame talk) → refuses side (record { frame = frame; why = why }) rest after
       → IsRefused (judge side) (brings side) lines stop (record { frame = length h.front; why = why })
       → all ≡ h.heard ++ lines → stopped ≡ stop
-      → Ended h.first all stopped (talk.said ++ rest) after
+      → Replied h.first all stopped talk.said rest false after
   refuses_so side after message frame rest lines all stop stopped why talk h says refused is same =
-      ends_so h.first after (h.heard ++ lines) all (talk.said ++ rest) stop stopped is same
-      (dialogue.HasEnded.refused h.heard talk.said lines rest stop (record { frame = length h.front; why = why }) side after h.answered refused
+      replied_so h.first after (h.heard ++ lines) all talk.said rest stop stopped false is same
+      (dialogue.HasReplied.refused h.heard talk.said lines rest stop (record { frame = length h.front; why = why }) side after h.answered refused
       (subst (λ n. refuses side (record { frame = n; why = why }) rest after) h.count says))
 
   pub refuses_packet : (side after : S) (message new : M) (frame : ℕ) (packet : Packet) (result : Result Step Why) (why : Why) (reply : R)
@@ -185,6 +196,8 @@ module _ {S M R : Type 0} (judge : S → Judge) (brings : S → List Packet → 
       let t = taken side message new frame packet result (Err why) talk takes is h in
       record {
         first = h.first;
+        part = [];
+        all = sym (append-nil talk.said);
         due = λ rest goes may_say.
             refuses_so side after message frame rest (h.front ++ packet ∷ []) (talk.heard ++ packet ∷ []) None talk.stopped why talk h (says rest goes may_say)
             (dialogue.packet h.front packet why h.goes t.0) (with_packet side message frame packet talk h) h.unstopped;
@@ -195,6 +208,8 @@ module _ {S M R : Type 0} (judge : S → Judge) (brings : S → List Packet → 
       → (talk : Talk) → Hearing side message frame talk → Ending after reply (stop_talk talk stop)
   refuses_stop side after message frame stop reply says talk h = record {
     first = h.first;
+    part = [];
+    all = sym (append-nil talk.said);
     due = λ rest goes may_say.
         refuses_so side after message frame rest h.front talk.heard (Some stop) (Some stop) (reason_of stop) talk h (says rest goes may_say)
         (dialogue.stopped h.front stop h.goes) h.all refl;
@@ -217,8 +232,10 @@ module _ {S M R : Type 0} (judge : S → Judge) (brings : S → List Packet → 
         spelt = says.spelt;
         held = record {
           first = h.first;
+          part = h.part ++ says.said;
+          all = with_part talk h.part says.said h.all;
           due = λ rest goes may_say.
-              subst (λ p. SoFar h.first goes talk.heard talk.stopped p side) (sym (append_assoc talk.said says.said rest))
+              subst (λ p. Replied h.first talk.heard talk.stopped talk.earlier p goes side) (sym (append_assoc h.part says.said rest))
               (h.due (says.said ++ rest) goes (leads rest goes may_say));
         };
       }
@@ -232,8 +249,10 @@ module _ {S M R : Type 0} (judge : S → Judge) (brings : S → List Packet → 
         spelt = says.spelt;
         held = record {
           first = h.first;
+          part = h.part ++ says.said;
+          all = with_part talk h.part says.said h.all;
           due = λ rest goes may_say.
-              subst (λ p. Ended h.first talk.heard talk.stopped p side) (sym (append_assoc talk.said says.said rest))
+              subst (λ p. Replied h.first talk.heard talk.stopped talk.earlier p false side) (sym (append_assoc h.part says.said rest))
               (h.due (says.said ++ rest) goes (leads rest goes may_say));
         };
       }
@@ -243,20 +262,23 @@ module _ {S M R : Type 0} (judge : S → Judge) (brings : S → List Packet → 
       → hears side message [] → LawsOf (judge side)
       → (talk : Talk) → Saying side old talk → Says (Stands side (stage.Hears message 0)) talk out
   hears_next side message old new out result says is held laws talk h =
-      let so_far = h.due says.said true (led_to old new out result said.Whole says is) in
+      let replied = h.due says.said true (led_to old new out result said.Whole says is) in
+      let so_far = answered_so h.first talk.heard talk.earlier (h.part ++ says.said) talk.stopped true side replied refl in
+      let all = with_part talk h.part says.said h.all in
       record {
         more = says.said;
         spelt = says.spelt;
         held = record {
           first = h.first;
           heard = talk.heard;
-          answered = so_far.0;
+          answered = subst (λ l. Answered judge brings opens answers refuses h.first talk.heard l side) (sym all) so_far.0;
           front = [];
           all = sym (append-nil talk.heard);
           goes = laws.nothing;
           held = held;
           count = refl;
           unstopped = so_far.1;
+          latest = inr (h.part ++ says.said, all, replied);
         };
       }
 
@@ -266,7 +288,7 @@ module _ {S M R : Type 0} (judge : S → Judge) (brings : S → List Packet → 
   says_last side old new out result says is talk h = record {
     more = says.said;
     spelt = says.spelt;
-    held = record { first = h.first; ended = h.due says.said false (led_to old new out result said.Last says is) };
+    held = record { first = h.first; part = h.part ++ says.said; all = with_part talk h.part says.said h.all; ended = h.due says.said false (led_to old new out result said.Last says is) };
   }
 
   -- the last reply is complete
@@ -275,7 +297,7 @@ module _ {S M R : Type 0} (judge : S → Judge) (brings : S → List Packet → 
   ends_whole side old new out result says is talk h = record {
     more = says.said;
     spelt = says.spelt;
-    held = record { first = h.first; ended = h.due says.said true (led_to old new out result said.Whole says is) };
+    held = record { first = h.first; part = h.part ++ says.said; all = with_part talk h.part says.said h.all; ended = h.due says.said true (led_to old new out result said.Whole says is) };
   }
 
   pub ends_last : (side : S) (old new : R) (out : Bytes) (result : Said) → Led old new out result → result ≡ said.Last
@@ -283,5 +305,5 @@ module _ {S M R : Type 0} (judge : S → Judge) (brings : S → List Packet → 
   ends_last side old new out result says is talk h = record {
     more = says.said;
     spelt = says.spelt;
-    held = record { first = h.first; ended = h.due says.said false (led_to old new out result said.Last says is) };
+    held = record { first = h.first; part = h.part ++ says.said; all = with_part talk h.part says.said h.all; ended = h.due says.said false (led_to old new out result said.Last says is) };
   }

@@ -1,5 +1,5 @@
 -- A dialogue: the messages that one end receives, and its answer to each.
-use Rattle.std.specs.Prelude.{◌≡◌, ℕ, ◌+◌, ◌-◌, ◌^◌, Bool, true, false, List, [], ◌∷◌, ◌++◌, length, Option, Some, None}
+use Rattle.std.specs.Prelude.{◌≡◌, ◌⊎◌, ℕ, ◌+◌, ◌-◌, ◌^◌, Bool, true, false, List, [], ◌∷◌, ◌++◌, length, Option, Some, None}
 use Rattle.gpkt.specs.Packets.{Packet}
 use Rattle.gpkt.specs.declared.fault.PacketFault.TheVariants.{Io}
 use Rattle.ggrammar.specs.Grammar.{Judge, IsOpen, IsWhole}
@@ -7,7 +7,7 @@ use Rattle.ggrammar.specs.MessageReading.{IsReason}
 use Rattle.ggrammar.specs.declared.fault.Why.{Why}
 use Rattle.ggrammar.specs.declared.fault.Why.TheVariants as why
 use Rattle.ggrammar.specs.declared.fault.MessageFault.{MessageFault}
-use Rattle.gtalk.specs.Talks.{Left, Talk}
+use Rattle.gtalk.specs.Talks.{IsTurnStart, Left, Talk}
 use Rattle.gtalk.specs.declared.conversation.Turn.{Turn}
 use Rattle.gtalk.specs.declared.conversation.Turn.TheVariants.{Listens, Speaks, Done}
 use Rattle.gtalk.specs.declared.conversation.Stop.{Stop}
@@ -70,13 +70,22 @@ module _ {S : Type 0} (judge : S → Judge) (brings : S → List Packet → Pack
         → refuses mid fault reply last
         → HasEnded first (heard ++ lines) stop (said ++ reply) last
 
-  -- the dialogue so far, which either continues or has ended
-  abbrev pub IsSoFar : S → Bool → List Packet → Option Stop → List Packet → S → Type 0
-  IsSoFar first true heard stop said side = Answered first heard said side × (stop ≡ None)
-  IsSoFar first false heard stop said side = HasEnded first heard stop said side
+  -- The latest answer of this end, or the packets that it sent before the first message. The arguments are all packets
+  -- received, the reason why no more packets arrive, the packets of all earlier answers, the packets of this answer,
+  -- whether the dialogue then continues, and the state of this end.
+  pub data HasReplied (first : S) : List Packet → Option Stop → List Packet → List Packet → Bool → S → Type 0 where
+    opened : (reply : List Packet) (goes : Bool) → opens first reply goes → HasReplied first [] None [] reply goes first
+    answered : (heard said lines reply : List Packet) (goes : Bool) (mid last : S) → Answered first heard said mid
+        → IsWhole (judge mid) lines → answers mid lines reply goes last
+        → HasReplied first (heard ++ lines) None said reply goes last
+    refused : (heard said lines reply : List Packet) (stop : Option Stop) (fault : MessageFault) (mid last : S)
+        → Answered first heard said mid → IsRefused (judge mid) (brings mid) lines stop fault
+        → refuses mid fault reply last
+        → HasReplied first (heard ++ lines) stop said reply false last
 
   module _ {M R : Type 0} (hears : S → M → List Packet → Type 0) (may : R → List Packet → Bool → Type 0) where
-    -- this end is receiving a message, and has answered all earlier messages
+    -- This end is receiving a message, and has answered all earlier messages. The packets that were queued since the last
+    -- received packet, if any, are the latest answer.
     pub record HoldsHearing (side : S) (message : M) (frame : ℕ) (talk : Talk) : Type 0 where
       pub first : S
       pub heard : List Packet
@@ -87,23 +96,33 @@ module _ {S : Type 0} (judge : S → Judge) (brings : S → List Packet → Pack
       pub held : hears side message front
       pub count : frame ≡ length front
       pub unstopped : talk.stopped ≡ None
+      pub latest : IsTurnStart talk ⊎ ((part : List Packet) × (talk.said ≡ talk.earlier ++ part)
+          × HasReplied first talk.heard talk.stopped talk.earlier part true side)
 
-    -- this end is sending an answer; every list of packets that may complete the reply completes the answer
+    -- This end is sending an answer, and has queued the packets `part` of it. Every list of packets that may complete the
+    -- reply completes the answer.
     pub record HoldsSaying (side : S) (reply : R) (talk : Talk) : Type 0 where
       pub first : S
+      pub part : List Packet
+      pub all : talk.said ≡ talk.earlier ++ part
       pub due : (rest : List Packet) (goes : Bool) → may reply rest goes
-          → IsSoFar first goes talk.heard talk.stopped (talk.said ++ rest) side
+          → HasReplied first talk.heard talk.stopped talk.earlier (part ++ rest) goes side
 
-    -- this end is sending its last reply; every list of packets that may complete the reply ends the dialogue
+    -- This end is sending its last reply, and has queued the packets `part` of it. Every list of packets that may complete
+    -- the reply ends the dialogue.
     pub record HoldsEnding (side : S) (reply : R) (talk : Talk) : Type 0 where
       pub first : S
+      pub part : List Packet
+      pub all : talk.said ≡ talk.earlier ++ part
       pub due : (rest : List Packet) (goes : Bool) → may reply rest goes
-          → HasEnded first talk.heard talk.stopped (talk.said ++ rest) side
+          → HasReplied first talk.heard talk.stopped talk.earlier (part ++ rest) false side
 
     -- the dialogue has ended with these packets received and queued
     pub record HoldsOver (side : S) (talk : Talk) : Type 0 where
       pub first : S
-      pub ended : HasEnded first talk.heard talk.stopped talk.said side
+      pub part : List Packet
+      pub all : talk.said ≡ talk.earlier ++ part
+      pub ended : HasReplied first talk.heard talk.stopped talk.earlier part false side
 
     abbrev pub HoldsStage : S → DialogueStage M R → Talk → Type 0
     HoldsStage side (stage.Hears message frame) talk = HoldsHearing side message frame talk

@@ -1,3 +1,4 @@
 pub mod Sides
 pub mod Dialogues
+pub mod Running
 pub mod steps

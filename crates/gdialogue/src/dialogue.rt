@@ -67,6 +67,7 @@ impl<S: Side<M, R>, M: Drop, R: Reply + Drop> Dialogue<S, M, R> {
         ensures holds { S.opens side [] true
             → Holds S.judge S.brings S.opens S.answers S.refuses S.hears R.may result no_talk }
         ensures side { result.side ≡ side }
+        ensures listens { turn_of result.stage ≡ Turn.Listens }
     {
         // Laws that the proof uses.
         grammars_are_exact();

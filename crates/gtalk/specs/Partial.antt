@@ -9,6 +9,11 @@ use Rattle.gpkt.specs.declared.fault.PacketFault.TheVariants.{Truncated, Memory}
 use Rattle.gtalk.specs.declared.conversation.Stop.{Stop}
 use Rattle.gtalk.specs.declared.conversation.Stop.TheVariants as stop
 
+-- the buffer for the bytes of one packet: the received bytes, and the capacity of the buffer
+pub record Buffered : Type 0 where
+  pub bytes : Bytes
+  pub room : ℕ
+
 -- the bytes do not go beyond the four digits, or beyond the packet that the digits announce
 abbrev pub IsWithinPacket : Bytes → Type 0
 IsWithinPacket bytes =

@@ -4,28 +4,44 @@ use Rattle.gpkt.specs.Packets.{Bytes, Packet, canonical_all, max_packet}
 use Rattle.gtalk.specs.declared.conversation.Stop.{Stop}
 use Rattle.gtalk.specs.declared.conversation.Turn.{Turn}
 
--- the history of a conversation: the packets received, the packets queued to send, and the reason why no more packets
--- arrive, if any
+-- The history of a conversation: the packets received, the packets queued to send, and the reason why no more packets
+-- arrive, if any. `earlier` contains the packets that were queued before the last packet was received, or before the
+-- notification that no more packets arrive.
 pub record Talk : Type 0 where
   pub heard : List Packet
   pub stopped : Option Stop
   pub said : List Packet
+  pub earlier : List Packet
 
 -- the history in which no packet was received or queued
 abbrev pub no_talk : Talk
-no_talk = record { heard = []; stopped = None; said = [] }
+no_talk = record { heard = []; stopped = None; said = []; earlier = [] }
 
 -- the history with one more packet received
 abbrev pub talk_after : Talk → Packet → Talk
-talk_after talk packet = record { heard = talk.heard ++ packet ∷ []; stopped = talk.stopped; said = talk.said }
+talk_after talk packet =
+    record { heard = talk.heard ++ packet ∷ []; stopped = talk.stopped; said = talk.said; earlier = talk.said }
 
 -- the history after the conversation was notified that no more packets arrive, with the reason `why`
 abbrev pub stop_talk : Talk → Stop → Talk
-stop_talk talk why = record { heard = talk.heard; stopped = Some why; said = talk.said }
+stop_talk talk why = record { heard = talk.heard; stopped = Some why; said = talk.said; earlier = talk.said }
 
 -- the history with more packets queued
 abbrev pub talk_with_reply : Talk → List Packet → Talk
-talk_with_reply talk more = record { heard = talk.heard; stopped = talk.stopped; said = talk.said ++ more }
+talk_with_reply talk more =
+    record { heard = talk.heard; stopped = talk.stopped; said = talk.said ++ more; earlier = talk.earlier }
+
+-- no packet was queued since the last packet was received, or since the notification that no more packets arrive
+abbrev pub IsTurnStart : Talk → Type 0
+IsTurnStart talk = talk.earlier ≡ talk.said
+
+-- the two histories need not be related
+abbrev pub AnyTalk : Talk → Talk → Type 0
+AnyTalk talk after = Unit {0}
+
+-- the conversation queues more packets, and receives nothing
+abbrev pub SaysOn : Talk → Talk → Type 0
+SaysOn talk after = (more : List Packet) × (after ≡ talk_with_reply talk more)
 
 -- the bytes encode packets that the conversation may queue after the history `talk`
 pub record Says (Holds : Talk → Type 0) (talk : Talk) (bytes : Bytes) : Type 0 where

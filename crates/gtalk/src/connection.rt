@@ -14,8 +14,8 @@ use std::alloc::{Allocator, Global};
 /// call [`speak`](Connection::speak). Send the bytes of [`output`](Connection::output), and report
 /// their number to [`note_sent`](Connection::note_sent).
 ///
-/// The buffer for received bytes is allocated when the first byte is received. The send queue is
-/// allocated when the conversation first speaks.
+/// A connection without a [`Room`](crate::Room) allocates the buffer for received bytes when the
+/// first byte is received, and the send queue when the conversation first speaks.
 #[derive(Drop)]
 pub struct Connection<C, A: Allocator + Copy = Global> {
     pub(crate) conversation: C,
@@ -27,5 +27,5 @@ pub struct Connection<C, A: Allocator + Copy = Global> {
     pub(crate) outgoing: Option<Outgoing<A>>,
     // The number of bytes of the send queue that have been sent.
     pub(crate) sent: usize,
-    ghost part: { ∥ IsPartial stopped incoming ∥₁ },
+    ghost part: { ∥ IsPartial stopped incoming.bytes ∥₁ },
 }

@@ -1,13 +1,13 @@
 //! Running a connection over a blocking source and a blocking sink.
 
-ghost use Rattle.std.specs.Prelude.{◌≡◌, ◌<◌, ◌≤◌, [], Ok, is_err, None, IfOk, IsSome, OnErr, OnOk, length, take};
+ghost use Rattle.std.specs.Prelude.{◌≡◌, ◌≢◌, ◌<◌, ◌≤◌, [], Ok, Err, is_err, None, false, IfErr, IfOk, IsOkUnless, IsSome, IsTrue, OnErr, OnOk, length, take};
 ghost use Rattle.std.specs.Io.KnownBytes.{Consumes, IsAtEnd, Keeps};
 ghost use Rattle.gpkt.specs.Change.{change_of};
 ghost use Rattle.gpkt.specs.Devices.{KeepsPassed, PassesAll};
-ghost use Rattle.gtalk.specs.Connections.{BreaksOff, Drives, HearsRead, IsDone, IsHeld, LeavesSink, SendsSaid, conversation_of, has_stopped, pending_of};
+ghost use Rattle.gtalk.specs.Connections.{BreaksOff, Drives, FailsBy, HasDriven, HasRoom, HearsRead, IsDone, IsHeld, LeavesSink, conversation_of, has_stopped, pending_of};
 ghost use Rattle.gtalk.specs.Partial.{LeavesSource};
-ghost use Rattle.gtalk.specs.Talks.{IsNearer};
-ghost use Rattle.gtalk.specs.steps.Driving.{IsDownBy, IsFewer, IsLater, reading_left};
+ghost use Rattle.gtalk.specs.Talks.{AnyTalk, IsNearer};
+ghost use Rattle.gtalk.specs.steps.Driving.{IsDownBy, IsFewer, IsLater, SaysTurn, SendsPending, reading_left};
 
 use crate::connection::Connection;
 use crate::conversation::{Conversation, Turn};
@@ -30,13 +30,13 @@ pub fn drive<C: Conversation, A: Allocator + Copy, S: Source, W: Sink>(
 ) -> Result<(), TalkFault>
     requires held { IsHeld C.holds connection.old }
     requires all_sent { pending_of connection.old ≡ [] }
-    ensures drives { Drives C.holds connection.old connection.new
+    ensures drives { Drives C.turn C.holds AnyTalk connection.old connection.new
         (change_of S.remaining source.old source.new) (change_of W.contents sink.old sink.new) }
     ensures done { OnOk result (IsDone C.turn connection.new) }
     ensures all_sent { OnOk result (pending_of connection.new ≡ []) }
     ensures passed_on { OnOk result (IsSome (W.contents sink.old)
         → PassesAll (W.contents sink.new) (change_of W.passed_on sink.old sink.new)) }
-    ensures broken { OnErr result (BreaksOff C.holds C.turn connection.old connection.new
+    ensures broken { OnErr result (BreaksOff C.turn C.holds connection.old connection.new
         (change_of S.remaining source.old source.new) (change_of W.contents sink.old sink.new)
         (change_of W.passed_on sink.old sink.new)) }
     ensures sink { LeavesSink result (W.is_down sink.old) (W.is_down sink.new) }
@@ -44,6 +44,55 @@ pub fn drive<C: Conversation, A: Allocator + Copy, S: Source, W: Sink>(
         (S.is_down source.old)
         → LeavesSource (has_stopped connection.new) (S.remaining source.new)
         (S.is_down source.new) }
+    ensures reads { C.turn (conversation_of connection.old) ≡ Turn.Listens
+        → has_stopped connection.old ≡ None
+        → LeavesSource (has_stopped connection.new) (S.remaining source.new)
+        (S.is_down source.new) }
+    ensures memory { HasRoom connection.old → result ≢ Err TalkFault.Memory }
+    ensures source_loans { S.loans source.new ≡ S.loans source.old }
+    ensures sink_loans { W.loans sink.new ≡ W.loans sink.old }
+{
+    match converse(connection, source, sink) {
+        Ok(true) => Ok(()),
+        Ok(false) => pass_on(sink),
+        Err(fault) => Err(fault),
+    }
+}
+
+/// Runs a conversation to its end like [`drive`], but calls the sink only in turns that queue
+/// packets. Returns whether it sent bytes.
+///
+/// A turn that queues no packet is not flushed. If no turn queues a packet, the sink is unchanged.
+pub fn converse<C: Conversation, A: Allocator + Copy, S: Source, W: Sink>(
+    connection: &mut Connection<C, A>,
+    source: &mut S,
+    sink: &mut W,
+) -> Result<bool, TalkFault>
+    requires held { IsHeld C.holds connection.old }
+    requires all_sent { pending_of connection.old ≡ [] }
+    ensures drives { Drives C.turn C.holds AnyTalk connection.old connection.new
+        (change_of S.remaining source.old source.new) (change_of W.contents sink.old sink.new) }
+    ensures done { OnOk result (IsDone C.turn connection.new) }
+    ensures all_sent { OnOk result (pending_of connection.new ≡ []) }
+    ensures driven { IfOk result (λ sent. HasDriven C.turn C.holds sent connection.old connection.new
+        (change_of S.remaining source.old source.new) (change_of W.contents sink.old sink.new)
+        (change_of W.passed_on sink.old sink.new) (W.is_down sink.new) (sink.new ≡ sink.old)) }
+    ensures broken { OnErr result (BreaksOff C.turn C.holds connection.old connection.new
+        (change_of S.remaining source.old source.new) (change_of W.contents sink.old sink.new)
+        (change_of W.passed_on sink.old sink.new)) }
+    ensures fails { IfErr result (λ fault. FailsBy C.turn C.holds fault connection.old connection.new
+        (change_of S.remaining source.old source.new) (change_of W.contents sink.old sink.new)
+        (change_of W.passed_on sink.old sink.new)) }
+    ensures down { IsDownBy result (W.is_down sink.old) (W.is_down sink.new) }
+    ensures source { LeavesSource (has_stopped connection.old) (S.remaining source.old)
+        (S.is_down source.old)
+        → LeavesSource (has_stopped connection.new) (S.remaining source.new)
+        (S.is_down source.new) }
+    ensures reads { C.turn (conversation_of connection.old) ≡ Turn.Listens
+        → has_stopped connection.old ≡ None
+        → LeavesSource (has_stopped connection.new) (S.remaining source.new)
+        (S.is_down source.new) }
+    ensures memory { HasRoom connection.old → result ≢ Err TalkFault.Memory }
     ensures source_loans { S.loans source.new ≡ S.loans source.old }
     ensures sink_loans { W.loans sink.new ≡ W.loans sink.old }
 {
@@ -52,67 +101,106 @@ pub fn drive<C: Conversation, A: Allocator + Copy, S: Source, W: Sink>(
         match connection.turn() {
             Turn::Listens => listen(connection, source),
             Turn::Speaks => match speak(connection, sink) {
-                Ok(()) => passed = true,
+                Ok(sent) => passed = passed || sent,
                 Err(fault) => return Err(fault),
             },
-            Turn::Done if passed => return Ok(()),
-            Turn::Done => return pass_on(sink),
+            Turn::Done => return Ok(passed),
         }
     }
 }
 
-// Sends all packets of this turn, and flushes the sink.
+// Sends all packets of this turn, and flushes the sink if bytes were sent. Returns whether bytes
+// were sent.
 fn speak<C: Conversation, A: Allocator + Copy, W: Sink>(
     connection: &mut Connection<C, A>,
     sink: &mut W,
-) -> Result<(), TalkFault>
+) -> Result<bool, TalkFault>
     requires turn { C.turn (conversation_of connection.old) ≡ Turn.Speaks }
     requires held { IsHeld C.holds connection.old }
     requires all_sent { pending_of connection.old ≡ [] }
-    ensures sends { SendsSaid C.holds connection.old connection.new
-        (change_of W.contents sink.old sink.new) }
+    ensures says { SaysTurn C.turn C.holds result connection.old connection.new
+        (change_of W.contents sink.old sink.new) (sink.new ≡ sink.old) }
     ensures stopped { has_stopped connection.new ≡ has_stopped connection.old }
     ensures fewer { OnOk result ((C.left (conversation_of connection.new)).turns
         < (C.left (conversation_of connection.old)).turns) }
+    ensures over { OnOk result (C.turn (conversation_of connection.new) ≢ Turn.Speaks) }
     ensures all_sent { OnOk result (pending_of connection.new ≡ []) }
-    ensures passed_on { OnOk result
-        (PassesAll (W.contents sink.new) (change_of W.passed_on sink.old sink.new)) }
+    ensures passed_on { IfOk result (λ sent. IsTrue sent
+        → PassesAll (W.contents sink.new) (change_of W.passed_on sink.old sink.new)) }
+    ensures up { IfOk result (λ sent. IsTrue sent → W.is_down sink.new ≡ false) }
     ensures kept { OnErr result (KeepsPassed (change_of W.passed_on sink.old sink.new)) }
-    ensures sink { LeavesSink result (W.is_down sink.old) (W.is_down sink.new) }
     ensures down { IsDownBy result (W.is_down sink.old) (W.is_down sink.new) }
+    ensures memory { HasRoom connection.old → result ≢ Err TalkFault.Memory }
     ensures loans { W.loans sink.new ≡ W.loans sink.old }
 {
+    let mut sent = false;
     loop {
         match connection.turn() {
             Turn::Speaks => match say_some(connection, sink) {
-                Ok(()) => {}
+                Ok(some) => sent = sent || some,
                 Err(fault) => return Err(fault),
             },
-            Turn::Listens | Turn::Done => return pass_on(sink),
+            Turn::Listens | Turn::Done => {
+                return match finish_turn(sent, sink) {
+                    Ok(is_sent) => Ok(is_sent),
+                    Err(fault) => Err(fault),
+                };
+            }
         }
     }
 }
 
-// Makes the conversation queue packets once, and sends the queued packets.
+// Flushes the sink if bytes were sent.
+fn finish_turn<W: Sink>(sent: bool, sink: &mut W) -> Result<bool, TalkFault>
+    ensures sent { IfOk result (λ is_sent. is_sent ≡ sent) }
+    ensures some { OnErr result (IsTrue sent) }
+    ensures io { IsOkUnless result TalkFault.Io }
+    ensures untouched { sent ≡ false → sink.new ≡ sink.old }
+    ensures bytes { Keeps (W.contents sink.old) (W.contents sink.new) }
+    ensures passed_on { OnOk result (IsTrue sent
+        → PassesAll (W.contents sink.new) (change_of W.passed_on sink.old sink.new)) }
+    ensures up { OnOk result (IsTrue sent → W.is_down sink.new ≡ false) }
+    ensures kept { OnErr result (KeepsPassed (change_of W.passed_on sink.old sink.new)) }
+    ensures down { IsDownBy result (W.is_down sink.old) (W.is_down sink.new) }
+    ensures loans { W.loans sink.new ≡ W.loans sink.old }
+{
+    if !sent {
+        return Ok(false);
+    }
+    match pass_on(sink) {
+        Ok(()) => Ok(true),
+        Err(fault) => Err(fault),
+    }
+}
+
+// Makes the conversation queue packets once, and sends the queued packets. Returns whether bytes
+// were sent.
 fn say_some<C: Conversation, A: Allocator + Copy, W: Sink>(
     connection: &mut Connection<C, A>,
     sink: &mut W,
-) -> Result<(), TalkFault>
+) -> Result<bool, TalkFault>
     requires turn { C.turn (conversation_of connection.old) ≡ Turn.Speaks }
     requires held { IsHeld C.holds connection.old }
     requires all_sent { pending_of connection.old ≡ [] }
-    ensures sends { SendsSaid C.holds connection.old connection.new
-        (change_of W.contents sink.old sink.new) }
+    ensures says { SaysTurn C.turn C.holds result connection.old connection.new
+        (change_of W.contents sink.old sink.new) (sink.new ≡ sink.old) }
     ensures stopped { has_stopped connection.new ≡ has_stopped connection.old }
     ensures nearer { OnOk result (IsNearer C.turn C.left (conversation_of connection.old)
         (conversation_of connection.new)) }
     ensures all_sent { OnOk result (pending_of connection.new ≡ []) }
     ensures passed_on { Keeps (W.passed_on sink.old) (W.passed_on sink.new) }
     ensures down { IsDownBy result (W.is_down sink.old) (W.is_down sink.new) }
+    ensures memory { HasRoom connection.old → result ≢ Err TalkFault.Memory }
     ensures loans { W.loans sink.new ≡ W.loans sink.old }
 {
     match connection.speak() {
-        Ok(()) => send(connection, sink),
+        Ok(()) => {
+            let some = !connection.output().is_empty();
+            match send(connection, sink) {
+                Ok(()) => Ok(some),
+                Err(fault) => Err(fault),
+            }
+        }
         Err(fault) => Err(fault),
     }
 }
@@ -122,8 +210,11 @@ fn send<C: Conversation, A: Allocator + Copy, W: Sink>(
     connection: &mut Connection<C, A>,
     sink: &mut W,
 ) -> Result<(), TalkFault>
-    ensures sends { SendsSaid C.holds connection.old connection.new
+    ensures sends { SendsPending C.turn C.holds connection.old connection.new
         (change_of W.contents sink.old sink.new) }
+    ensures some { OnErr result (0 < length (pending_of connection.old)) }
+    ensures io { IsOkUnless result TalkFault.Io }
+    ensures untouched { pending_of connection.old ≡ [] → sink.new ≡ sink.old }
     ensures conversation { conversation_of connection.new ≡ conversation_of connection.old }
     ensures stopped { has_stopped connection.new ≡ has_stopped connection.old }
     ensures all_sent { OnOk result (pending_of connection.new ≡ []) }
@@ -146,8 +237,9 @@ fn send_some<C: Conversation, A: Allocator + Copy, W: Sink>(
     sink: &mut W,
 ) -> Result<(), TalkFault>
     requires some { 0 < length (pending_of connection.old) }
-    ensures sends { SendsSaid C.holds connection.old connection.new
+    ensures sends { SendsPending C.turn C.holds connection.old connection.new
         (change_of W.contents sink.old sink.new) }
+    ensures io { IsOkUnless result TalkFault.Io }
     ensures conversation { conversation_of connection.new ≡ conversation_of connection.old }
     ensures stopped { has_stopped connection.new ≡ has_stopped connection.old }
     ensures fewer { OnOk result (length (pending_of connection.new)
@@ -167,6 +259,7 @@ fn send_some<C: Conversation, A: Allocator + Copy, W: Sink>(
 
 // Flushes all bytes that were sent.
 fn pass_on<W: Sink>(sink: &mut W) -> Result<(), TalkFault>
+    ensures io { IsOkUnless result TalkFault.Io }
     ensures bytes { Keeps (W.contents sink.old) (W.contents sink.new) }
     ensures passed_on { OnOk result
         (PassesAll (W.contents sink.new) (change_of W.passed_on sink.old sink.new)) }
@@ -189,11 +282,13 @@ fn listen<C: Conversation, A: Allocator + Copy, S: Source>(
     requires turn { C.turn (conversation_of connection.old) ≡ Turn.Listens }
     requires goes_on { has_stopped connection.old ≡ None }
     requires held { IsHeld C.holds connection.old }
-    ensures hears { HearsRead C.holds connection.old connection.new
+    ensures hears { HearsRead C.turn C.holds connection.old connection.new
         (change_of S.remaining source.old source.new) }
     ensures source { LeavesSource (has_stopped connection.old) (S.remaining source.old)
         (S.is_down source.old)
         → LeavesSource (has_stopped connection.new) (S.remaining source.new)
+        (S.is_down source.new) }
+    ensures reads { LeavesSource (has_stopped connection.new) (S.remaining source.new)
         (S.is_down source.new) }
     ensures fewer { IsFewer C.left connection.old connection.new }
     ensures pending { pending_of connection.new ≡ pending_of connection.old }
@@ -217,7 +312,7 @@ fn hear_some<C: Conversation, A: Allocator + Copy, S: Source>(
     requires turn { C.turn (conversation_of connection.old) ≡ Turn.Listens }
     requires goes_on { has_stopped connection.old ≡ None }
     requires held { IsHeld C.holds connection.old }
-    ensures hears { HearsRead C.holds connection.old connection.new
+    ensures hears { HearsRead C.turn C.holds connection.old connection.new
         (change_of S.remaining source.old source.new) }
     ensures source { LeavesSource (has_stopped connection.new) (S.remaining source.new)
         (S.is_down source.new) }

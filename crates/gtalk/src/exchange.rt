@@ -1,15 +1,16 @@
 //! The bytes that a connection receives and sends.
 
-ghost use Rattle.std.specs.Prelude.{◌≡◌, ◌<◌, ◌≤◌, [], None, Some, length, take, drop, IsOkUnless, OnErr, OnOk};
-ghost use Rattle.gtalk.specs.Connections.{Advances, Grows, Holds, IsTurn, Moves, bytes_in, conversation_of, has_stopped, partial_of, pending_of};
+ghost use Rattle.std.specs.Prelude.{◌≡◌, ◌<◌, ◌≤◌, [], None, Some, length, take, drop, IsOk, IsOkUnless, OnErr, OnOk};
+ghost use Rattle.gtalk.specs.Connections.{Advances, Goes, Grows, HasRoom, HearsOn, Holds, IsClean, IsTurn, Moves, bytes_in, conversation_of, has_stopped, partial_of, pending_of};
 ghost use Rattle.gtalk.specs.Partial.{IsByBytes, IsByEnd, Lacks};
-ghost use Rattle.gtalk.specs.Talks.{no_talk, queue_room};
+ghost use Rattle.gtalk.specs.Talks.{SaysOn, no_talk, queue_room};
 
 use crate::connection::Connection;
 use crate::conversation::{Conversation, Stop, Turn};
 use crate::fault::TalkFault;
 use crate::incoming::Incoming;
 use crate::outgoing::Outgoing;
+use crate::room::Room;
 use gpkt::PacketFault;
 use std::alloc::Allocator;
 
@@ -45,9 +46,12 @@ impl<C: Conversation, A: Allocator + Copy> Connection<C, A> {
     /// connection.
     pub fn new(conversation: C, alloc: A) -> Connection<C, A>
         ensures holds { C.holds conversation no_talk → Holds C.holds result [] [] }
+        ensures begins { C.holds conversation no_talk
+            → (held : Holds C.holds result [] []) × (held.talk ≡ no_talk) }
         ensures conversation { conversation_of result ≡ conversation }
         ensures goes_on { has_stopped result ≡ None }
         ensures pending { pending_of result ≡ [] }
+        ensures clean { IsClean C.turn result }
     {
         Connection {
             conversation,
@@ -55,6 +59,34 @@ impl<C: Conversation, A: Allocator + Copy> Connection<C, A> {
             stopped: None,
             incoming: Incoming::new(alloc),
             outgoing: None,
+            sent: 0,
+        }
+    }
+
+    /// Returns a new connection that uses these buffers. No byte has been received or sent on the
+    /// connection. Until [`give_back`](Connection::give_back), no call on this connection fails for
+    /// lack of memory.
+    pub fn with_room(conversation: C, room: Room<A>) -> Connection<C, A>
+        ensures holds { C.holds conversation no_talk → Holds C.holds result [] [] }
+        ensures begins { C.holds conversation no_talk
+            → (held : Holds C.holds result [] []) × (held.talk ≡ no_talk) }
+        ensures conversation { conversation_of result ≡ conversation }
+        ensures goes_on { has_stopped result ≡ None }
+        ensures pending { pending_of result ≡ [] }
+        ensures clean { IsClean C.turn result }
+        ensures room { HasRoom result }
+    {
+        let Room {
+            alloc,
+            incoming,
+            outgoing,
+        } = room;
+        Connection {
+            conversation,
+            alloc,
+            stopped: None,
+            incoming,
+            outgoing: Some(outgoing),
             sent: 0,
         }
     }
@@ -90,6 +122,7 @@ impl<C: Conversation, A: Allocator + Copy> Connection<C, A> {
         requires goes_on { has_stopped self.old ≡ None }
         requires wanted { Lacks (partial_of self.old) (length bytes.now) }
         ensures moves { Moves C.holds self.old self.new bytes.now [] }
+        ensures goes { Goes C.turn C.holds (HearsOn self.old self.new) self.old self.new bytes.now [] }
         ensures pending { pending_of self.new ≡ pending_of self.old }
         ensures stopped { IsByBytes (has_stopped self.new) }
         ensures grows { Grows C.holds C.turn C.left self.old self.new (length bytes.now) }
@@ -119,6 +152,7 @@ impl<C: Conversation, A: Allocator + Copy> Connection<C, A> {
         requires turn { C.turn (conversation_of self.old) ≡ Turn.Listens }
         requires goes_on { has_stopped self.old ≡ None }
         ensures moves { Moves C.holds self.old self.new [] [] }
+        ensures goes { Goes C.turn C.holds (HearsOn self.old self.new) self.old self.new [] [] }
         ensures pending { pending_of self.new ≡ pending_of self.old }
         ensures stopped { IsByEnd (has_stopped self.new) }
         ensures advances { Advances C.holds C.turn C.left self.old self.new }
@@ -133,6 +167,7 @@ impl<C: Conversation, A: Allocator + Copy> Connection<C, A> {
         requires turn { C.turn (conversation_of self.old) ≡ Turn.Listens }
         requires goes_on { has_stopped self.old ≡ None }
         ensures moves { Moves C.holds self.old self.new [] [] }
+        ensures goes { Goes C.turn C.holds (HearsOn self.old self.new) self.old self.new [] [] }
         ensures pending { pending_of self.new ≡ pending_of self.old }
         ensures stopped { has_stopped self.new ≡ Some Stop.Failed }
         ensures advances { Advances C.holds C.turn C.left self.old self.new }
@@ -146,14 +181,17 @@ impl<C: Conversation, A: Allocator + Copy> Connection<C, A> {
     ///
     /// Fails only with [`TalkFault::Memory`], and only in a call that allocates the send queue: the
     /// first call, or the first call after [`give_back`](Connection::give_back). After a failure
-    /// the connection is unchanged.
+    /// the connection is unchanged. A connection with room does not fail.
     pub fn speak(&mut self) -> Result<(), TalkFault>
         requires turn { C.turn (conversation_of self.old) ≡ Turn.Speaks }
         requires all_sent { pending_of self.old ≡ [] }
         ensures memory { IsOkUnless result TalkFault.Memory }
+        ensures room { HasRoom self.old → IsOk result }
         ensures moves { Moves C.holds self.old self.new [] [] }
+        ensures goes { Goes C.turn C.holds SaysOn self.old self.new [] [] }
         ensures same { OnErr result (conversation_of self.new ≡ conversation_of self.old) }
         ensures pending { OnErr result (pending_of self.new ≡ []) }
+        ensures partial { partial_of self.new ≡ partial_of self.old }
         ensures stopped { has_stopped self.new ≡ has_stopped self.old }
         ensures advances { OnOk result (Advances C.holds C.turn C.left self.old self.new) }
     {
@@ -189,7 +227,10 @@ impl<C: Conversation, A: Allocator + Copy> Connection<C, A> {
     pub fn note_sent(&mut self, count: usize)
         requires { count ≤ length (pending_of self.old) }
         ensures moves { Moves C.holds self.old self.new [] (take count (pending_of self.old)) }
+        ensures goes { Goes C.turn C.holds SaysOn self.old self.new []
+            (take count (pending_of self.old)) }
         ensures pending { pending_of self.new ≡ drop count (pending_of self.old) }
+        ensures partial { partial_of self.new ≡ partial_of self.old }
         ensures conversation { conversation_of self.new ≡ conversation_of self.old }
         ensures stopped { has_stopped self.new ≡ has_stopped self.old }
     {

@@ -1,7 +1,7 @@
 //! The bytes of one packet, received in pieces of any size.
 
-ghost use Rattle.std.specs.Prelude.{◌≡◌, ◌<◌, ◌≤◌, ◌++◌, [], length, IfErr, OnErr, OnOk, Some};
-ghost use Rattle.gpkt.specs.Packets.{digit_count, number_of};
+ghost use Rattle.std.specs.Prelude.{◌≡◌, ◌<◌, ◌≤◌, ◌++◌, [], length, IfErr, IfOk, IsOk, OnErr, OnOk, Some};
+ghost use Rattle.gpkt.specs.Packets.{digit_count, max_packet, number_of};
 ghost use Rattle.gpkt.specs.PacketReading.{AnnouncesAtFront, IsPartialPacket, read_of};
 ghost use Rattle.gtalk.specs.Partial.{IsByBytes, IsByEnd, IsFound, IsStopped, IsWithinPacket, Lacks};
 
@@ -20,12 +20,12 @@ pub(crate) struct Incoming<A: Allocator + Copy = Global> {
 }
 
 impl<A: Allocator + Copy> Model for Incoming<A> {
-    ghost use Rattle.std.specs.Prelude.{List, ℕ};
-    ghost use Rattle.gtalk.specs.Partial.{IsWithinPacket};
+    ghost use Rattle.std.specs.Prelude.{vec_capacity};
+    ghost use Rattle.gtalk.specs.Partial.{Buffered, IsWithinPacket};
 
-    ghost Value = { List ℕ };
+    ghost Value = { Buffered };
 
-    ghost view = { λ i. i.bytes.items };
+    ghost view = { λ i. record { bytes = i.bytes.items; room = vec_capacity i.bytes } };
 
     ghost invariant = { λ i. IsWithinPacket i.bytes.items };
 }
@@ -33,29 +33,43 @@ impl<A: Allocator + Copy> Model for Incoming<A> {
 impl<A: Allocator + Copy> Incoming<A> {
     /// Returns an empty buffer, without allocating.
     pub(crate) fn new(alloc: A) -> Incoming<A>
-        ensures { result ≡ [] }
+        ensures { result.bytes ≡ [] }
     {
         Incoming {
             bytes: Vec::new(alloc),
         }
     }
 
+    /// Returns an empty buffer with room for a packet of the maximum size.
+    pub(crate) fn with_room(alloc: A) -> Result<Incoming<A>, AllocError>
+        ensures empty { IfOk result (λ incoming. incoming.bytes ≡ []) }
+        ensures room { IfOk result (λ incoming. max_packet ≤ incoming.room) }
+    {
+        match Vec::with_capacity(alloc, MAX_PACKET) {
+            Ok(bytes) => Ok(Incoming { bytes }),
+            Err(fault) => Err(fault),
+        }
+    }
+
     /// Returns the number of bytes that are missing from the four digits. If the digits are
     /// complete, returns the number of bytes that are missing from the packet.
     pub(crate) fn lacks(&self) -> usize
-        ensures lacks { Lacks self.now result }
-        ensures some { IsPartialPacket self.now → 0 < result }
+        ensures lacks { Lacks self.now.bytes result }
+        ensures some { IsPartialPacket self.now.bytes → 0 < result }
     {
         lacks_after(self.as_bytes())
     }
 
     /// Appends received bytes. Their number must not exceed the number of missing bytes. If the
-    /// allocation fails, the buffer is unchanged.
+    /// allocation fails, the stored bytes are unchanged. The call does not fail if the buffer has room
+    /// for a packet of the maximum size.
     #[tactic(auto, using(crate::proofs::Partials::within_after))]
     pub(crate) fn take_bytes(&mut self, bytes: &[u8]) -> Result<(), AllocError>
-        requires { Lacks self.old (length bytes.now) }
-        ensures taken { OnOk result (self.new ≡ self.old ++ bytes.now) }
-        ensures same { OnErr result (self.new ≡ self.old) }
+        requires { Lacks self.old.bytes (length bytes.now) }
+        ensures taken { OnOk result (self.new.bytes ≡ self.old.bytes ++ bytes.now) }
+        ensures same { OnErr result (self.new.bytes ≡ self.old.bytes) }
+        ensures room { self.old.room ≤ self.new.room }
+        ensures enough { max_packet ≤ self.old.room → IsOk result }
     {
         self.bytes.extend_from_slice(bytes)
     }
@@ -63,7 +77,7 @@ impl<A: Allocator + Copy> Incoming<A> {
     /// Returns the packet, or `None` if the packet is incomplete. Fails if no packet begins with
     /// the stored bytes.
     pub(crate) fn line(&self) -> Result<Option<Packet<'_>>, PacketFault>
-        ensures found { IsFound self.now (read_of result) }
+        ensures found { IsFound self.now.bytes (read_of result) }
         ensures fault { IfErr result (λ fault. IsByBytes (Some (Stop.Refused fault))) }
     {
         packet_within(self.as_bytes())
@@ -72,7 +86,7 @@ impl<A: Allocator + Copy> Incoming<A> {
     /// Returns the reason to report if the input ends after the stored bytes. The stored bytes must
     /// be empty or an incomplete packet.
     pub(crate) fn end(&self) -> Stop
-        ensures stopped { IsPartialPacket self.now → IsStopped (Some result) self.now }
+        ensures stopped { IsPartialPacket self.now.bytes → IsStopped (Some result) self.now.bytes }
         ensures end { IsByEnd (Some result) }
     {
         if self.bytes.is_empty() {
@@ -84,14 +98,15 @@ impl<A: Allocator + Copy> Incoming<A> {
 
     /// Clears the buffer for the next packet.
     pub(crate) fn clear(&mut self)
-        ensures { self.new ≡ [] }
+        ensures empty { self.new.bytes ≡ [] }
+        ensures room { self.new.room ≡ self.old.room }
     {
         self.bytes.clear();
     }
 
     fn as_bytes(&self) -> &[u8]
-        ensures bytes { result.now ≡ self.now }
-        ensures within { IsWithinPacket self.now }
+        ensures bytes { result.now ≡ self.now.bytes }
+        ensures within { IsWithinPacket self.now.bytes }
     {
         self.bytes.as_slice()
     }

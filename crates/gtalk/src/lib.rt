@@ -26,12 +26,19 @@
 //! - [`drive`] fails with `Io` only if the sink has failed, and with `Memory` only if there is not
 //!   enough memory. After a failure, all packets of earlier turns are flushed, and a prefix of the
 //!   packets of the last turn is written (`BreaksOff`).
+//! - [`converse`] calls the sink only in turns that queue packets, and flushes only those turns. If
+//!   it sends no byte, the sink is unchanged (`HasSent`). If the sink fails, the last turn queued at
+//!   least one packet, and all packets of earlier turns are flushed (`FailsInTurn`).
+//! - A connection that uses the buffers of a [`Room`] never runs out of memory (`HasRoom`).
+//! - No byte after the last packet is stored, unless the conversation listens or no more packets
+//!   arrive (`IsClean`).
 //! - [`Outgoing`] appends each packet in its canonical encoding.
 //!
 //! # What the contracts do not rule out
 //!
 //! - No contract rules out that a connection reads and writes one byte at a time.
-//! - No contract rules out that an allocation fails, for received bytes or for packets to send.
+//! - No contract rules out that an allocation fails, for received bytes or for packets to send,
+//!   unless the connection uses the buffers of a [`Room`].
 //! - No contract rules out that memory is allocated before it is needed, or freed late.
 //! - No contract rules out that [`drive`] leaves sent packets unflushed, if the written or flushed
 //!   bytes of the sink are unknown before the call.
@@ -50,9 +57,11 @@ mod exchange;
 mod fault;
 mod incoming;
 mod outgoing;
+mod room;
 
 pub use crate::connection::Connection;
 pub use crate::conversation::{Conversation, Stop, Turn};
-pub use crate::driver::drive;
+pub use crate::driver::{converse, drive};
 pub use crate::fault::TalkFault;
 pub use crate::outgoing::Outgoing;
+pub use crate::room::Room;

@@ -1,11 +1,10 @@
 -- The loop that drives a connection: the remaining steps of a turn, and the outcome of one turn.
-use Rattle.std.specs.Prelude.{◌≡◌, ℕ, ◌+◌, ◌*◌, ◌-◌, ◌<◌, ◌≤◌, ◌⊎◌, length, [], Bool}
-use Rattle.std.specs.Prelude.{true, false, Option, Some, None, Result, Ok, Err, IsSome}
+use Rattle.std.specs.Prelude.{◌≡◌, ℕ, ◌+◌, ◌*◌, ◌-◌, ◌<◌, ◌≤◌, ◌⊎◌, ◌++◌, length, [], Bool}
+use Rattle.std.specs.Prelude.{true, false, Option, Some, None, Result, Ok, Err}
 use Rattle.gpkt.specs.Change.{Change}
-use Rattle.gpkt.specs.Devices.{PassesAll}
-use Rattle.gpkt.specs.Packets.{max_packet}
+use Rattle.gpkt.specs.Packets.{Bytes, max_packet}
 use Rattle.gtalk.specs.Talks.{Left, Talk}
-use Rattle.gtalk.specs.Connections.{Drives}
+use Rattle.gtalk.specs.Connections.{SendsSaid, pending_of}
 use Rattle.gtalk.specs.declared.connection.Connection.{Connection}
 use Rattle.gtalk.specs.declared.conversation.Stop.{Stop}
 use Rattle.gtalk.specs.declared.fault.TalkFault.{TalkFault}
@@ -34,7 +33,7 @@ count_unstopped (Some why) = 0
 module _ {C A : Type 0} (turn : C → Turn) (left : C → Left) where
   abbrev pub reading_left : Connection C A → ℕ
   reading_left connection =
-      reads_left (turn connection.conversation) (left connection.conversation).steps (length connection.incoming)
+      reads_left (turn connection.conversation) (left connection.conversation).steps (length connection.incoming.bytes)
 
   abbrev pub saying_left : Connection C A → ℕ
   saying_left connection = calls_left (turn connection.conversation) (left connection.conversation).steps
@@ -56,15 +55,26 @@ IsFewer left old new =
     ⊎ (((left new.conversation).turns ≤ (left old.conversation).turns) × ((why : Stop) × (new.stopped ≡ Some why)))
 
 -- after `Io` the sink has failed; after any other result it has failed if and only if it had failed before the call
-abbrev pub IsDownBy : Result Unit TalkFault → Bool → Bool → Type 0
+abbrev pub IsDownBy : {T : Type 0} → Result T TalkFault → Bool → Bool → Type 0
 IsDownBy (Ok done) was_down is_down = is_down ≡ was_down
 IsDownBy (Err Io) was_down is_down = is_down ≡ true
 IsDownBy (Err Memory) was_down is_down = is_down ≡ was_down
 
--- The progress of a connection so far. If `passed` is false, no bytes were sent. If `passed` is true and the written
--- bytes are known, all of them are flushed.
-pub record Driven {C A : Type 0} (holds : C → Talk → Type 0) (passed : Bool) (old new : Connection C A)
-    (read written passed_on : Change) (Untouched : Type 0) : Type 0 where
-  pub drives : Drives holds old new read written
-  pub quiet : passed ≡ false → (drives.said ≡ []) × Untouched
-  pub known : passed ≡ true → IsSome written.old → PassesAll written.new passed_on
+-- whether a turn queued at least one packet: the bytes that it sent, and the pending bytes
+abbrev pub CountsSent : Result Bool TalkFault → Bytes → Bytes → Type 0 → Type 0
+CountsSent (Ok true) said pending Untouched = 0 < length said
+CountsSent (Ok false) said pending Untouched = (said ≡ []) × Untouched
+CountsSent (Err Io) said pending Untouched = 0 < length (said ++ pending)
+CountsSent (Err Memory) said pending Untouched = Unit {0}
+
+module _ {C A : Type 0} (turn : C → Turn) (holds : C → Talk → Type 0) where
+  -- a prefix of the pending bytes is sent and written
+  pub record SendsPending (old new : Connection C A) (written : Change) : Type 0 where
+    pub sends : SendsSaid turn holds old new written
+    pub parts : pending_of old ≡ sends.said ++ pending_of new
+
+  -- a turn, or a part of it: all bytes that the connection sends are written
+  pub record SaysTurn (result : Result Bool TalkFault) (old new : Connection C A) (written : Change)
+      (Untouched : Type 0) : Type 0 where
+    pub sends : SendsSaid turn holds old new written
+    pub counts : CountsSent result sends.said (pending_of new) Untouched

@@ -1,5 +1,5 @@
 -- The bytes received so far in this turn, and the number of remaining reads.
-use Rattle.std.proofs.Common.{◌≡◌}
+use Rattle.std.proofs.Common.{◌≡◌, ◌⊎◌}
 use Rattle.gpkt.specs.Change.{change_of}
 use Rattle.gtalk.specs.Connections.{HearsRead, conversation_of, has_stopped, pending_of}
 use Rattle.gtalk.specs.Partial.{LeavesSource}
@@ -8,9 +8,10 @@ use Rattle.gtalk.proofs.driver.listen.Given as goal
 
 abbrev pub invariant-loop-connection : goal.invariant-loop-connection
 invariant-loop-connection g l = record {
-  hears : HearsRead g.C.Conversation.holds l.initial.connection l.connection (change_of g.S.Source.remaining l.initial.source l.source);
+  hears : HearsRead g.C.Conversation.turn g.C.Conversation.holds l.initial.connection l.connection (change_of g.S.Source.remaining l.initial.source l.source);
   source : LeavesSource (has_stopped l.initial.connection) (g.S.Source.remaining l.initial.source) (g.S.Source.is_down l.initial.source)
       → LeavesSource (has_stopped l.connection) (g.S.Source.remaining l.source) (g.S.Source.is_down l.source);
+  reads : (l.connection ≡ l.initial.connection) ⊎ LeavesSource (has_stopped l.connection) (g.S.Source.remaining l.source) (g.S.Source.is_down l.source);
   later : IsLater g.C.Conversation.turn g.C.Conversation.left (conversation_of l.initial.connection) (conversation_of l.connection);
   pending : pending_of l.connection ≡ pending_of l.initial.connection;
   loans : g.S.Source.loans l.source ≡ g.S.Source.loans l.initial.source;

@@ -1,14 +1,14 @@
 -- The packets queued and sent so far in this turn, and the number of remaining calls.
-use Rattle.std.proofs.Common.{◌≡◌, []}
+use Rattle.std.proofs.Common.{◌≡◌, [], Ok}
 use Rattle.std.specs.Io.KnownBytes.{Keeps}
 use Rattle.gpkt.specs.Change.{change_of}
-use Rattle.gtalk.specs.Connections.{SendsSaid, conversation_of, has_stopped, pending_of}
-use Rattle.gtalk.specs.steps.Driving.{IsLater, saying_left}
+use Rattle.gtalk.specs.Connections.{conversation_of, has_stopped, pending_of}
+use Rattle.gtalk.specs.steps.Driving.{IsLater, SaysTurn, saying_left}
 use Rattle.gtalk.proofs.driver.speak.Given as goal
 
 abbrev pub invariant-loop-connection : goal.invariant-loop-connection
 invariant-loop-connection g l = record {
-  sends : SendsSaid g.C.Conversation.holds l.initial.connection l.connection (change_of g.W.Sink.contents l.initial.sink l.sink);
+  says : SaysTurn g.C.Conversation.turn g.C.Conversation.holds (Ok l.sent) l.initial.connection l.connection (change_of g.W.Sink.contents l.initial.sink l.sink) (l.sink ≡ l.initial.sink);
   stopped : has_stopped l.connection ≡ has_stopped l.initial.connection;
   later : IsLater g.C.Conversation.turn g.C.Conversation.left (conversation_of l.initial.connection) (conversation_of l.connection);
   all_sent : pending_of l.connection ≡ [];
