@@ -59,7 +59,7 @@ impl<'r, R: Files, A: Allocator + Copy> StoredFile<'r, R, A> {
     }
 }
 
-// The permissions of a new lockfile: only its owner can open it. `make_lock` then gives the
+// The permissions of a new lockfile: only its owner can open it. `create_lockfile` then gives the
 // lockfile the permissions of the locked file.
 const OWNER_ONLY: u32 = 0o600;
 
@@ -70,19 +70,31 @@ fn make_lock<R: Files, A: Allocator + Copy>(
     name: &str,
 ) -> Result<Lock<R, A>, StorageFault> {
     let target = target_of(files, alloc, name)?;
+    let path = lockfile_path(files, alloc, target.as_path())?;
+    let file = create_lockfile(files, path.as_str(), target.as_str())?;
+    Ok(Lock { target, path, file })
+}
+
+// Returns the path of the lockfile of a regular file.
+fn lockfile_path<R: Files, A: Allocator + Copy>(
+    files: &R,
+    alloc: A,
+    target: Path<'_>,
+) -> Result<PathBuf<A>, StorageFault> {
     check_is_regular(files, target.as_str())?;
-    let mut path = target.to_path_buf(alloc)?;
-    path.add_extension("lock")?;
+    Ok(target.with_added_extension(alloc, "lock")?)
+}
+
+fn create_lockfile<R: Files>(files: &R, path: &str, target: &str) -> Result<R::File, StorageFault> {
     let file = OpenOptions::new()
         .write(true)
         .create_new(true)
         .mode(OWNER_ONLY)
-        .open(files, path.as_str())?;
-    let lock = Lock { target, path, file };
-    match copy_permissions(files, &lock) {
-        Ok(()) => Ok(lock),
+        .open(files, path)?;
+    match copy_permissions::<R>(files, target, &file) {
+        Ok(()) => Ok(file),
         Err(fault) => {
-            let _ = fs::remove_file(files, lock.path.as_str());
+            let _ = fs::remove_file(files, path);
             Err(fault)
         }
     }
@@ -111,12 +123,35 @@ fn check_is_regular<R: Files>(files: &R, path: &str) -> Result<Metadata, Storage
 }
 
 // Copies the permissions of the locked file to the lockfile.
-fn copy_permissions<R: Files, A: Allocator + Copy>(
+fn copy_permissions<R: Files>(
+    files: &R,
+    target: &str,
+    lockfile: &R::File,
+) -> Result<(), StorageFault> {
+    let metadata = check_is_regular(files, target)?;
+    Ok(lockfile.set_permissions(metadata.permissions())?)
+}
+
+fn read_file<R: Files, A: Allocator + Copy>(
+    files: &R,
+    alloc: A,
+    path: &str,
+) -> Result<Vec<u8, A>, StorageFault> {
+    let mut file = File::open(files, path)?;
+    let mut text = Vec::new(alloc);
+    file.read_to_end(&mut text)?;
+    Ok(text)
+}
+
+// Renames the lockfile over the locked file.
+fn rename_lockfile<R: Files, A: Allocator + Copy>(
     files: &R,
     lock: &Lock<R, A>,
 ) -> Result<(), StorageFault> {
-    let metadata = check_is_regular(files, lock.target.as_str())?;
-    Ok(lock.file.set_permissions(metadata.permissions())?)
+    fs::rename(files, lock.path.as_str(), lock.target.as_str())?;
+    // The file is already replaced, so a failure to sync its directory is not reported.
+    let _ = sync_directory(files, lock.target.as_path());
+    Ok(())
 }
 
 // Syncs the directory of the renamed file to disk.
@@ -143,9 +178,7 @@ impl<R: Files, A: Allocator + Copy> Storage for StoredFile<'_, R, A> {
         let Some(lock) = &self.lock else {
             return Err(StorageFault::Failed);
         };
-        let mut text = Vec::new(alloc);
-        File::open(self.files, lock.target.as_str())?.read_to_end(&mut text)?;
-        Ok(text)
+        read_file(self.files, alloc, lock.target.as_str())
     }
 
     fn write(&mut self, text: &[u8]) -> Result<(), StorageFault> {
@@ -173,9 +206,7 @@ impl<R: Files, A: Allocator + Copy> Storage for StoredFile<'_, R, A> {
         let Some(lock) = &self.lock else {
             return Err(StorageFault::Failed);
         };
-        fs::rename(self.files, lock.path.as_str(), lock.target.as_str())?;
-        // The file is already replaced, so a failure to sync its directory is not reported.
-        let _ = sync_directory(self.files, lock.target.as_path());
+        rename_lockfile(self.files, lock)?;
         self.lock = None;
         self.lockfile = Lockfile::Absent;
         Ok(())
