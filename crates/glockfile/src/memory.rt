@@ -166,7 +166,7 @@ impl<A: Allocator + Copy> Storage for MemoryFile<A> {
             return Err(StorageFault::Failed);
         }
         match self.states.last() {
-            Some(text) => Ok(text.to_vec(alloc)?),
+            Some(text) => text.to_vec(alloc).map_err(StorageFault::from),
             None => Err(StorageFault::Failed),
         }
     }

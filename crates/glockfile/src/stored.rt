@@ -5,12 +5,12 @@ ghost use Rattle.glockfile.specs.declared.storage.Lockfile.TheVariants.{Absent};
 
 use crate::storage::{Lockfile, Storage, StorageFault};
 use std::alloc::{Allocator, Global};
-use std::fs;
 use std::fs::{File, Files, Metadata, OpenFile, OpenOptions};
 use std::io::{Read, Write};
 use std::marker::Model;
 use std::os::unix::fs::OpenOptionsExt;
 use std::path::{Path, PathBuf};
+use std::{fs, io};
 
 /// A file on disk, with its lockfile. The name of the lockfile is the name of the file followed by
 /// `.lock`.
@@ -82,7 +82,9 @@ fn lockfile_path<R: Files, A: Allocator + Copy>(
     target: Path<'_>,
 ) -> Result<PathBuf<A>, StorageFault> {
     check_is_regular(files, target.as_str())?;
-    Ok(target.with_added_extension(alloc, "lock")?)
+    target
+        .with_added_extension(alloc, "lock")
+        .map_err(StorageFault::from)
 }
 
 fn create_lockfile<R: Files>(files: &R, path: &str, target: &str) -> Result<R::File, StorageFault> {
@@ -107,9 +109,11 @@ fn target_of<R: Files, A: Allocator + Copy>(
     name: &str,
 ) -> Result<PathBuf<A>, StorageFault> {
     if files.symlink_metadata(name)?.is_symlink() {
-        Ok(files.canonicalize(alloc, name)?)
+        files.canonicalize(alloc, name).map_err(StorageFault::from)
     } else {
-        Ok(Path::new(name).to_path_buf(alloc)?)
+        Path::new(name)
+            .to_path_buf(alloc)
+            .map_err(StorageFault::from)
     }
 }
 
@@ -129,7 +133,9 @@ fn copy_permissions<R: Files>(
     lockfile: &R::File,
 ) -> Result<(), StorageFault> {
     let metadata = check_is_regular(files, target)?;
-    Ok(lockfile.set_permissions(metadata.permissions())?)
+    lockfile
+        .set_permissions(metadata.permissions())
+        .map_err(StorageFault::from)
 }
 
 fn read_file<R: Files, A: Allocator + Copy>(
@@ -139,8 +145,10 @@ fn read_file<R: Files, A: Allocator + Copy>(
 ) -> Result<Vec<u8, A>, StorageFault> {
     let mut file = File::open(files, path)?;
     let mut text = Vec::new(alloc);
-    file.read_to_end(&mut text)?;
-    Ok(text)
+    match file.read_to_end(&mut text) {
+        Ok(_) => Ok(text),
+        Err(error) => Err(error.into()),
+    }
 }
 
 // Renames the lockfile over the locked file.
@@ -155,12 +163,12 @@ fn rename_lockfile<R: Files, A: Allocator + Copy>(
 }
 
 // Syncs the directory of the renamed file to disk.
-fn sync_directory<R: Files>(files: &R, target: Path<'_>) -> Result<(), StorageFault> {
+fn sync_directory<R: Files>(files: &R, target: Path<'_>) -> io::Result<()> {
     let directory = match target.parent() {
         Some(parent) if !parent.as_str().is_empty() => parent.as_str(),
         _ => ".",
     };
-    Ok(File::open(files, directory)?.sync_all()?)
+    File::open(files, directory)?.sync_all()
 }
 
 impl<R: Files, A: Allocator + Copy> Storage for StoredFile<'_, R, A> {
