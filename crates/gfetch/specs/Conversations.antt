@@ -132,7 +132,7 @@ module _ {A : Type 0} (indexes : Indexes A) (index_fails : IndexFails) (start : 
     -- the session can't begin, and the client reads nothing
     cannot_begin : (cause : ClientFault A) → Begins start.repo start.refspecs start.limit start.ends (Err cause)
         → IsUnread input → IsUnwritten output → new ≡ start.repo → Fails input output new (fetch.Client cause)
-    -- the client does not have enough memory for the reader's buffer, and reads nothing
+    -- the client does not have enough memory for its buffers, and reads nothing
     no_buffer : length start.refspecs ≤ max_specs → IsUnread input → IsUnwritten output → new ≡ start.repo
         → Fails input output new fetch.NoBuffer
     -- the client rejects the advertisement

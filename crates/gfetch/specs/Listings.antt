@@ -82,7 +82,7 @@ module _ (asked : LsRefsAsked) where
 
   -- The reasons why a listing fails. All steps before the fault succeeded.
   pub data FailsToList {A : Type 0} (input : Input) (output : Output) : FetchFault A → Type 0 where
-    -- the client does not have enough memory for the reader's buffer, and reads nothing
+    -- the client does not have enough memory for its buffers, and reads nothing
     no_buffer : IsUnread input → IsUnwritten output → FailsToList input output fetch.NoBuffer
     -- reading the advertisement fails, or the client does not support the server
     cannot_hear : (cause : MessageFault) → RefusesToRead input cause ⊎ FitsNone input cause → IsUnwritten output

@@ -19,7 +19,7 @@ pub enum FetchFault<A: Allocator + Copy = Global> {
     /// or of a reply was rejected. Faults 60 to 63, 66, 69, 75, 82 and 84 to 86: the refspecs, the
     /// content of a reply or the update of refs was rejected. Fault 64: memory ran out.
     Client(ClientFault<A>),
-    /// Fault 28: there is not enough memory for the reader's buffer. Nothing was read.
+    /// Fault 28: there is not enough memory for the buffers. Nothing was read.
     NoBuffer,
     /// Fault 27: the sink failed. A prefix of the client's output was written.
     WriteFailed,

@@ -45,6 +45,11 @@
 //!   `specs/Turns.antt` defines them (`DialoguesAreTurns` in `specs/Laws.antt`).
 //! - Each dialogue ends: each further request for objects is a round of the session, and a session
 //!   has fewer than 2^64 rounds (`messages_of`).
+//! - Each fault has the number, the name and the text of its row in `specs/Faults.antt`.
+//!
+//! # Only tested
+//!
+//! Nothing is tested, because no program of this repository uses this crate.
 //!
 //! # What the contracts do not rule out
 //!
@@ -54,7 +59,11 @@
 //! - The indexer may keep further objects, for example those of a rejected pack.
 //! - No contract bounds the time of an answer. Each request for objects starts a new walk at the
 //!   tips.
-//! - A call may queue only one packet, or no packet.
+//! - A call may queue only one packet, or no packet. An answer may be flushed more than once.
+//! - If a source or a sink does not record its bytes, the contracts say nothing about the bytes read
+//!   or written. They still state the outcome, and whether the source or the sink failed.
+//! - If the sink fails, no contract states how long the written prefix is.
+//! - Formatting a fault may return `fmt::Error` even if every write succeeds.
 //!
 //! # Dependencies
 //!
