@@ -40,7 +40,7 @@
 //! - No contract rules out that a side reports out of memory for a packet with content (`brings` in
 //!   [`Side`]) although memory is available.
 //! - No contract rules out that [`run_dialogue`] leaves sent packets unflushed, if the written or
-//!   flushed bytes of the sink are unknown before the call, or that it flushes an answer twice.
+//!   flushed bytes of the sink are unknown before the call. It may flush an answer twice.
 //! - No contract limits the time that a side needs for an answer. Meanwhile, the dialogue neither
 //!   receives nor sends packets.
 //!

@@ -18,9 +18,10 @@ use Rattle.grequest.specs.RequestValues.{asked_by_request}
 use Rattle.grequest.specs.declared.request.Request.{Request}
 use Rattle.gsession.specs.Offering.{AreOffersOf, OffersStay}
 use Rattle.gsession.specs.Requesting.{MakesNext, waiting_for}
-use Rattle.gsession.specs.Sessions.{SessionState, no_memory}
+use Rattle.gsession.specs.TakingReplies.{after_acks}
+use Rattle.gsession.specs.Sessions.{IsSession, SessionState, no_memory}
 use Rattle.gsession.specs.declared.fault.ClientFault.{ClientFault}
-use Rattle.gsession.specs.declared.stage.Stage.TheVariants.{Listing}
+use Rattle.gsession.specs.declared.stage.Stage.TheVariants.{Fetching, Listing}
 use Rattle.gsession.proofs.CommonLemmas.{apart_head}
 use Rattle.gsession.proofs.SessionLemmas.{listing_fetches}
 
@@ -77,14 +78,20 @@ module _ {A : Type 0} where
 
   -- ---- after a reply
 
-  pub offers_stay : DistinctAreOnce → (indexes : Indexes A) (index_fails : IndexFails)
-      → OffersStay indexes index_fails
-  offers_stay law indexes index_fails haves old new repo after reply common g None is takes are = tt
-  offers_stay law indexes index_fails haves old new repo after reply common g (Some offers) is takes are =
-      let acks = acknowledged_by reply in
+  -- the walk remains valid if the session's common ids only grow
+  pub offers_grow : DistinctAreOnce → (old new : SessionState A) (acks : List (List ℕ)) (g : List (Entry A))
+      (offers : Option (Offers A)) → IsSession old → new ≡ after_acks old Fetching acks
+      → IfSome offers (AreOffersOf old g) → IfSome offers (AreOffersOf new g)
+  offers_grow law old new acks g None is same are = tt
+  offers_grow law old new acks g (Some offers) is same are =
       let order = (law (old.commons ++ acks)).order old.commons acks refl in
       let more : distinct_of (old.commons ++ acks) ≡ are.heard ++ (are.rest ++ order.0) =
       order.1 ∙ ap (λ (l : List (List ℕ)). l ++ order.0) (own_ids [] old.commons is.commons.once ∙ are.commons)
       ∙ append_assoc are.heard are.rest order.0 in
-      subst (λ (t : SessionState A). AreOffersOf t g offers) (sym takes.1.1)
+      subst (λ (t : SessionState A). AreOffersOf t g offers) (sym same)
       (record { heard = are.heard; rest = are.rest ++ order.0; commons = more; are = are.are })
+
+  pub offers_stay : DistinctAreOnce → (indexes : Indexes A) (index_fails : IndexFails)
+      → OffersStay indexes index_fails
+  offers_stay law indexes index_fails haves old new repo after reply common g offers is takes are =
+      offers_grow law old new (acknowledged_by reply) g offers is takes.1.1 are

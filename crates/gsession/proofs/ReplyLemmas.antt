@@ -1,5 +1,5 @@
 -- Accepting or rejecting a reply, step by step.
-use Rattle.std.proofs.Common.{◌≡◌, ◌≤◌, ℕ, Bool, true, false, not, List, ◌++◌, length, All, Contains, Option, Some, None, Result, Ok, Err, IfErr, inr}
+use Rattle.std.proofs.Common.{◌≡◌, ◌≤◌, ℕ, Bool, true, false, not, List, ◌++◌, length, All, Contains, Option, Some, None, Result, Ok, Err, IfErr, IfOk, inr}
 use Rattle.std.proofs.Common.{MatchResult, refl, sym, ap, subst, true≢false, arith, ◌∙◌}
 use Rattle.std.specs.Option.{option_map}
 use Rattle.std.proofs.lemmas.Cmp.{nat_list_eq_equiv}
@@ -45,7 +45,7 @@ use Rattle.gsession.specs.steps.Calls.{AnswersLs, AnswersRead, AnswersRefs, Answ
 use Rattle.gsession.specs.Readers.{HoldsObjects}
 use Rattle.gsession.specs.declared.reader.ObjectsReader.{ObjectsReader}
 use Rattle.gsession.specs.TakingRefs.{AcceptsRefs, AwaitsRefs, IsLsFault, IsUnaccepted, IsRefsFault, ReadsRefs}
-use Rattle.gsession.specs.TakingReplies.{AcceptsRead, Awaits, HasPack, IsFirstStrange, IsReplyFault, IsTakeFault, ReadsFetch}
+use Rattle.gsession.specs.TakingReplies.{AcceptsRead, AddsCommons, Awaits, HasPack, IsFirstStrange, IsReplyFault, IsTakeFault, ReadsFetch}
 use Rattle.gsession.specs.TakingReplies.{RefusesPack, TakesHead, after_acks, reading_for}
 use Rattle.gsession.specs.declared.fault.ClientFault.{ClientFault}
 use Rattle.gsession.specs.declared.fault.ClientFault.TheVariants.{Index, Message, NoOpenRequest, Repo, StrangeAck, TooManyWants}
@@ -288,6 +288,18 @@ module _ {A : Type 0} where
   unaccepted old mid new g reply fault given waits answers same is =
       subst (λ (f : ClientFault A). AcceptsRefs old g reply new (Err f)) (sym same)
       (refs_unaccepted old g reply fault waits answers.0, is ∙ ap (λ (s : SessionState A). after_fault s fault) answers.1)
+
+  -- ---- a reply with only acknowledgments
+
+  pub acks_added : (haves acks : List (List ℕ)) (old new : SessionState A) (r : RepoState A) (result : Result Taken (ClientFault A))
+      → MatchResult result
+      (λ taken. All (Contains haves) acks × (new ≡ after_acks old Fetching acks)
+      × (taken ≡ Round (length new.commons)))
+      (λ fault. IsAcksFault haves acks fault × (new ≡ old))
+      → IfOk result (AddsCommons old r new r)
+  acks_added haves acks old new r (Ok (Round common)) answers = (acks, answers.1, refl)
+  acks_added haves acks old new r (Ok (PackTaken added)) answers = tt
+  acks_added haves acks old new r (Err fault) answers = tt
 
   -- ---- replies that fit their request
 

@@ -141,6 +141,12 @@ pub record HasTaken {A : Type 0} (old new : SessionState A) (taken : Taken) : Ty
   pub stage : new.stage ≡ stage_after taken
   pub rounds : new.rounds ≡ old.rounds
 
+-- a reply with only acknowledgments adds common ids, and changes nothing else of the session or the repository
+abbrev pub AddsCommons : {A : Type 0} → SessionState A → RepoState A → SessionState A → RepoState A → Taken → Type 0
+AddsCommons old repo_old new repo_new (Round common) =
+    (acks : List Id) × (new ≡ after_acks old Fetching acks) × (repo_new ≡ repo_old)
+AddsCommons old repo_old new repo_new (PackTaken added) = Unit {0}
+
 module _ {A : Type 0} (indexes : Indexes A) (index_fails : IndexFails) where
   -- the session reads a complete reply to the open request, and rejects its content
   abbrev pub DeclinesFetch : SessionState A → RepoState A → Change → ClientFault A → Type 0

@@ -43,7 +43,7 @@
 //!   each object that the graph gains, for any bytes of the reply. The store still keeps all that it
 //!   kept before.
 //! - [`Session::refs_reader`] and [`Session::objects_reader`] return readers of the reply that the
-//!   session waits for. Such a reader reads the reply packet by packet. [`Session::accept_refs`] and
+//!   session waits for. These readers read the reply packet by packet. [`Session::accept_refs`] and
 //!   [`Session::accept_objects`] apply the complete reply to the open request. The session then
 //!   changes as after `take_ls` and `take_reply_into`. [`Session::refuse`] ends the session, for
 //!   example if the reply is malformed.
@@ -91,8 +91,8 @@
 //!
 //! No contract determines the result of [`Session::accept_objects`] for a reader of another
 //! session, or for a reader that has not read a complete reply. A fault then still leaves the
-//! repository unchanged. The [`laws`] do not cover [`Session::accept_refs`],
-//! [`Session::accept_objects`] and [`Session::refuse`].
+//! repository unchanged, and a reply without a pack only adds common ids. The [`laws`] do not cover
+//! [`Session::accept_refs`], [`Session::accept_objects`] and [`Session::refuse`].
 //!
 //! No contract rules out that a session stores a complete pack before it passes the pack to the
 //! indexer. No contract rules out that the session starts the indexer more often than necessary, or

@@ -33,7 +33,7 @@ impl<A: Allocator + Copy> Session<A> {
     ghost use Rattle.gsession.specs.Sessions.{AreCommons, LeavesReplies};
     ghost use Rattle.gsession.specs.steps.Calls.{AnswersRead, AnswersReply, FitsOpen, IsAcksFault, IsStrangeAck, MayHaveFed};
     ghost use Rattle.gsession.specs.Readers.{HoldsObjects};
-    ghost use Rattle.gsession.specs.TakingReplies.{AcceptsRead, Awaits, AwaitsObjects, HasPack, HasTaken, TakesReply, after_acks, reading_for};
+    ghost use Rattle.gsession.specs.TakingReplies.{AcceptsRead, AddsCommons, Awaits, AwaitsObjects, HasPack, HasTaken, TakesReply, after_acks, reading_for};
 
     /// Reads the reply to a request for objects, and nothing after it. Passes the pack to the
     /// indexer while the pack arrives. After the end of the reply, checks that each acknowledged id
@@ -155,6 +155,7 @@ impl<A: Allocator + Copy> Session<A> {
         ensures errs { IfErr result (λ _. repo.new ≡ repo.old) }
         ensures grows { Grows repo.old.graph.entries repo.new.graph.entries }
         ensures goes { IfOk result (HasTaken self.old self.new) }
+        ensures round { IfOk result (AddsCommons self.old repo.old self.new repo.new) }
         ensures keeps { KeepsOn (K.keeps indexer.old) (K.keeps indexer.new)
             repo.old.graph.entries repo.new.graph.entries }
     {
@@ -213,6 +214,7 @@ impl<A: Allocator + Copy> Session<A> {
     ) -> Result<Taken, ClientFault<A>>
         requires { FitsOpen self.old (head_in head) }
         ensures goes { IfOk result (HasTaken self.old self.new) }
+        ensures round { IfOk result (AddsCommons self.old repo.old self.new repo.new) }
         ensures errs { IfErr result (λ _. repo.new ≡ repo.old) }
         ensures grows { Grows repo.old.graph.entries repo.new.graph.entries }
         ensures answers { (asked : FetchAsked) (reply : FetchReply) → Awaits self.old asked
@@ -260,6 +262,7 @@ impl<A: Allocator + Copy> Session<A> {
     ) -> Result<Taken, ClientFault<A>>
         requires { AwaitsObjects self.old }
         ensures goes { IfOk result (HasTaken self.old self.new) }
+        ensures round { IfOk result (AddsCommons self.old repo.old self.new repo.new) }
         ensures errs { IfErr result (λ _. repo.new ≡ repo.old) }
         ensures grows { Grows repo.old.graph.entries repo.new.graph.entries }
         ensures answers { (asked : FetchAsked) (reply : FetchReply) → Awaits self.old asked

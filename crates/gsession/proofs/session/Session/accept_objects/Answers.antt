@@ -55,3 +55,6 @@ returns-in-Err-clause-closed g c = λ not.
 pub returns-in-Ok-clause-closed : goal.returns-in-Ok-clause-closed
 returns-in-Ok-clause-closed g c = λ not.
     let fit = c.fits_open.ensures.fits c.if-not-fits_open.false in absurd (not (fit.0, fit.1))
+
+pub returns-in-Ok-clause-round : goal.returns-in-Ok-clause-round
+returns-in-Ok-clause-round g c = c.in-Ok.ensures.round

@@ -167,3 +167,19 @@ returns-in_err-added-clause-grows g c = c.in_err-added.ensures.grows
 
 pub returns-clause-grows : goal.returns-clause-grows
 returns-clause-grows g c = c.in_ok-added.ensures.grows
+
+pub returns-in_err-check_acks-clause-round : goal.returns-in_err-check_acks-clause-round
+returns-in_err-check_acks-clause-round g c =
+    let p = err_from_is_err_and c.from_residual.result c.from_residual.ensures.1 in rw p.1 tt
+
+pub returns-in_err-entries-clause-round : goal.returns-in_err-entries-clause-round
+returns-in_err-entries-clause-round g c =
+    let p = err_from_is_err_and c.from_residual-in_err-entries.result c.from_residual-in_err-entries.ensures.1 in rw p.1 tt
+
+pub returns-in_err-commons-clause-round : goal.returns-in_err-commons-clause-round
+returns-in_err-commons-clause-round g c =
+    let p = err_from_is_err_and c.from_residual-in_err-commons.result c.from_residual-in_err-commons.ensures.1 in rw p.1 tt
+
+pub returns-in_err-added-clause-round : goal.returns-in_err-added-clause-round
+returns-in_err-added-clause-round g c =
+    let p = err_from_is_err_and c.from_residual-in_err-added.result c.from_residual-in_err-added.ensures.1 in rw p.1 tt
