@@ -57,6 +57,27 @@ pub record SessionLaws (A : Type 0) : Type 0 where
   pub formats : IdsHaveOneFormat
   pub exact : OffersAreExact A
 
+few_distinct : DistinctAreOnce → (ids : List (List ℕ)) → length (distinct_of ids) ≤ length ids
+few_distinct law ids =
+    length-le_from_is_member nat_list_eq_equiv (distinct_of ids) ids (law ids).once
+    (λ a there. any_from_contains ids a (((law ids).same a).0 (contains_from_any (distinct_of ids) a there)))
+
+ls_well : DistinctAreOnce → (specs : List Refspec) (unborn : Bool) → AreSources specs → length specs ≤ max_specs
+    → IsLsRefsAsked profile (ls_request specs unborn)
+ls_well law specs unborn sources few =
+    let prefixes : List (List ℕ) = map (λ (spec : Refspec). spec.source) specs in record {
+      agent = tt;
+      prefixes = all_distinct law IsPrefix prefixes (All-map IsPrefix (λ (spec : Refspec). spec.source) specs sources);
+      few = omega (arith, few, few_distinct law prefixes, length-map specs (λ (spec : Refspec). spec.source));
+    }
+
+not_direct : (direct : Bool) (has : Type 0) → (direct ≡ true → has) → ¬ has → direct ≡ false
+not_direct true has all none = absurd (none (all refl))
+not_direct false has all none = refl
+
+over_fetches : Over ≡ Fetching → ⊥
+over_fetches same = cc
+
 module _ {A : Type 0} where
   -- a valid session of a plain fetch with these refspecs, in this format
   pub record IsPlain (format : Format) (specs : List Refspec) (s : SessionState A) : Type 0 where
@@ -90,20 +111,6 @@ module _ {A : Type 0} where
     pub plain : IsPlain format specs waiting
     pub waits : waiting.pending ≡ Some asked
     pub well : IsAsked profile format asked
-
-  few_distinct : DistinctAreOnce → (ids : List (List ℕ)) → length (distinct_of ids) ≤ length ids
-  few_distinct law ids =
-      length-le_from_is_member nat_list_eq_equiv (distinct_of ids) ids (law ids).once
-      (λ a there. any_from_contains ids a (((law ids).same a).0 (contains_from_any (distinct_of ids) a there)))
-
-  ls_well : DistinctAreOnce → (specs : List Refspec) (unborn : Bool) → AreSources specs → length specs ≤ max_specs
-      → IsLsRefsAsked profile (ls_request specs unborn)
-  ls_well law specs unborn sources few =
-      let prefixes : List (List ℕ) = map (λ (spec : Refspec). spec.source) specs in record {
-        agent = tt;
-        prefixes = all_distinct law IsPrefix prefixes (All-map IsPrefix (λ (spec : Refspec). spec.source) specs sources);
-        few = omega (arith, few, few_distinct law prefixes, length-map specs (λ (spec : Refspec). spec.source));
-      }
 
   -- a session that asks for refs stays valid
   refs_asked : (s : SessionState A) (asked : LsRefsAsked) → IsSession s → s.stage ≡ Listing → s.pending ≡ None
@@ -191,10 +198,6 @@ module _ {A : Type 0} where
         specs_are = plain.specs_are;
       })
 
-  not_direct : (indexes : Indexes A) (direct : Bool) (has : Type 0) → (direct ≡ true → has) → ¬ has → direct ≡ false
-  not_direct indexes true has all none = absurd (none (all refl))
-  not_direct indexes false has all none = refl
-
   -- a session that accepts a fetch reply stays valid
   pub objects_keep : SessionLaws A → (indexes : Indexes A) (index_fails : IndexFails) (format : Format)
       (specs : List Refspec) (s after : SessionState A) (repo new : RepoState A) (asked : FetchAsked)
@@ -204,7 +207,7 @@ module _ {A : Type 0} where
   objects_keep laws indexes index_fails format specs s after repo new asked lines reply (Round common) plain waits says takes =
       let acks = acknowledged_by reply in
       let commons = distinct_of (s.commons ++ acks) in
-      let direct : is_direct asked ≡ false = not_direct indexes (is_direct asked) (HasPack reply)
+      let direct : is_direct asked ≡ false = not_direct (is_direct asked) (HasPack reply)
       (λ yes. says_pack (reading_for s asked) lines reply yes says.says) takes.1.0 in
       subst (IsPlain format specs) (sym takes.1.1) (record {
         session = acks_taken s asked commons plain.session waits direct
@@ -227,9 +230,6 @@ module _ {A : Type 0} where
       })
 
   -- ---- the end of the session
-
-  over_fetches : Over ≡ Fetching → ⊥
-  over_fetches same = cc
 
   -- a session that has settled is valid
   pub settled_session : (s : SessionState A) → IsSession s → IsSession (record (over s) { asks = [] })

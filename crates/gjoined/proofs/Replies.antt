@@ -55,9 +55,9 @@ pub record ReplyLaws {A : Type 0} (packs : Packs A) : Type 0 where
   pub sessions : SessionLaws A
 
 -- if no more packets are spelt, the bytes after them are the bytes before them
-nothing_more : {more : List Packet} {bytes : List ℕ} (rest after : List ℕ) → more ≡ [] → SpellsAll more bytes
+nothing_more : (more : List Packet) (bytes rest after : List ℕ) → more ≡ [] → SpellsAll more bytes
     → rest ≡ bytes ++ after → rest ≡ after
-nothing_more {more} {bytes} rest after none spelt is =
+nothing_more more bytes rest after none spelt is =
     let empty : bytes ≡ [] = subst (λ (l : List Packet). SpellsAll l bytes) none spelt in
     is ∙ ap (λ (b : List ℕ). b ++ after) empty
 
@@ -72,13 +72,13 @@ one_objects laws reading other lines others reply kept front next rest after for
           let one = laws.objects_once reading other lines longer.0 reply kept format ends says
           (subst (λ (l : List Packet). objects.Says other l kept) longer.2 also) in (
             sym (longer.2 ∙ ap (λ (l : List Packet). lines ++ l) one.0 ∙ append-nil lines),
-            nothing_more rest after one.0 longer.3 longer.4,
+            nothing_more longer.0 longer.1 rest after one.0 longer.3 longer.4,
           )
       | inr longer ↦
           let one = laws.objects_once other reading others longer.0 kept reply (sym format) (sym ends) also
           (subst (λ (l : List Packet). objects.Says reading l reply) longer.2 says) in (
             longer.2 ∙ ap (λ (l : List Packet). others ++ l) one.0 ∙ append-nil others,
-            sym (nothing_more after rest one.0 longer.3 longer.4),
+            sym (nothing_more longer.0 longer.1 after rest one.0 longer.3 longer.4),
           )
     ]
 
@@ -124,8 +124,8 @@ module _ {A : Type 0} (tools : PackTools A) where
   no_error errors said short waiting (Fetches asked) old new lines front rest takes spelt same =
       no_objects errors (reading_for waiting asked) lines front rest said short takes.says.whole spelt same
 
-module _ {A : Type 0} {tools : PackTools A} (laws : ReplyLaws tools.packs) (server : Server A) (is : IsServer server)
-    (specs : List Refspec) where
+module _ {A : Type 0} (tools : PackTools A) (laws : ReplyLaws tools.packs) (server : Server A)
+    (is : IsServer server) (specs : List Refspec) where
   pack_small : (asked : FetchAsked) (reply : FetchReply) → RepliesWith server tools.packs asked reply
       → length (pack_of reply) ≤ max_pack
   pack_small asked (Acks ids) replies = omega arith

@@ -219,7 +219,7 @@ module _ {A : Type 0} (tools : PackTools A) (server : Server A) where
         let answers : Answers server tools.packs turn.asked serve.answer =
         subst (λ (a : Asked). Answers server tools.packs a serve.answer) told.0 serves.answers in
         let taken : IsTaken tools server.graph.format specs waiting turn.asked first next serve.answer rest after =
-        takes_reply laws.replies server is specs waiting turn.asked first next serve.answer turn.reply reply rest after
+        takes_reply tools laws.replies server is specs waiting turn.asked first next serve.answer turn.reply reply rest after
         asked.plain asked.waits asked.well answers is_turn.takes reply_spelt reply_same in
         let w = world_at server first.session first.repo sent kept mark in
         let first_step = stepped w event.Ask (outcomes.Asked n) waiting first.repo (sent ++ turn.asked ∷ []) kept mark
