@@ -1,6 +1,8 @@
 -- Messages at the front of the same bytes.
-use Rattle.std.proofs.Common.{[], ◌∷◌, ◌++◌, ◌≡◌, ◌+◌, ◌≤◌, ℕ, List, length, refl, ap, arith, length-append}
+use Rattle.std.proofs.Common.{[], ◌∷◌, ◌++◌, ◌≡◌, ◌+◌, ◌≤◌, ℕ, List, length, Option, Some, None, refl, ap, subst, arith}
+use Rattle.std.proofs.Common.{length-append}
 use Rattle.gpkt.specs.Laws.{HasFourBytes}
+use Rattle.gpkt.specs.PacketReading.{ReadsPackets}
 use Rattle.gpkt.specs.Packets.{Packet, SpellsAll}
 use Rattle.ggrammar.specs.Grammar.{IsWhole, Judge}
 use Rattle.ggrammar.specs.MessageBytes.{ReadsNoOther}
@@ -25,3 +27,22 @@ none_spelt law (line ∷ lines) front rest (first, later, parts, spelt, more) no
 pub none_whole : {judge : Judge} {lines : List Packet} → IsWhole judge lines → lines ≡ [] → ⊥
 none_whole whole none =
     omega (arith, ap length none, ap length whole.parts, length-append whole.front (whole.last ∷ []))
+
+-- the packets are read from the front of known bytes
+pub record IsReadFrom (bytes : List ℕ) (new : Option (List ℕ)) (lines : List Packet) : Type 0 where
+  pub front : List ℕ
+  pub left : List ℕ
+  pub is : new ≡ Some left
+  pub parts : bytes ≡ front ++ left
+  pub spelt : SpellsAll lines front
+
+read_known : (bytes : List ℕ) (new : Option (List ℕ)) (lines : List Packet)
+    → ReadsPackets (record { old = Some bytes; new = new }) lines → IsReadFrom bytes new lines
+read_known bytes None lines h = absurd h
+read_known bytes (Some left) lines h = record { front = h.0; left = left; is = refl; parts = h.1; spelt = h.2 }
+
+pub read_from : (old new : Option (List ℕ)) (bytes : List ℕ) (lines : List Packet) → old ≡ Some bytes
+    → ReadsPackets (record { old = old; new = new }) lines → IsReadFrom bytes new lines
+read_from old new bytes lines is h =
+    read_known bytes new lines
+    (subst (λ (o : Option (List ℕ)). ReadsPackets (record { old = o; new = new }) lines) is h)

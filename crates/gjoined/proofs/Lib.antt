@@ -1,6 +1,7 @@
 pub mod Bytes
 pub mod Errors
 pub mod Plain
+pub mod Refusals
 pub mod Replies
 pub mod Requests
 pub mod Rounds

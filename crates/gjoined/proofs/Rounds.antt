@@ -8,10 +8,12 @@ use Rattle.std.proofs.lemmas.List.{take_all}
 use Rattle.std.proofs.lemmas.List.Elements.{All-cons, All-head, All-nil, All-tail}
 use Rattle.gpkt.specs.Laws.{CanonicalJoins, SpellingsSplit}
 use Rattle.gpkt.specs.Packets.{Bytes, Packet, SpellsAll, canonical_all}
+use Rattle.ggrammar.specs.Limits.{profile}
 use Rattle.ggrammar.specs.declared.ends.Ends.TheVariants.{Plain}
 use Rattle.grefs.specs.RefLists.{IsRefs, RefList}
 use Rattle.grefs.specs.Refspecs.{Refspec}
 use Rattle.grequest.specs.Asked.{Asked}
+use Rattle.grequest.specs.WellFormed.{IsAsked}
 use Rattle.gclientrepo.specs.Changes.{SettlesAsks}
 use Rattle.gclientrepo.specs.Repos.{RepoState}
 use Rattle.gclientrepo.specs.declared.ask.RefUpdate.{RefUpdate}
@@ -67,7 +69,8 @@ regroup whole a b rest mine theirs after parts same =
 
 -- ---- the steps of a round
 
-is_pack : Outcome → Bool
+-- the outcome is an accepted pack
+abbrev pub is_pack : Outcome → Bool
 is_pack (outcomes.PackTaken added) = true
 is_pack _ = false
 
@@ -119,9 +122,16 @@ pub record IsRound {A : Type 0} (tools : PackTools A) (server : Server A) (specs
   pub asked_left : left ≡ more
   pub answered_left : rest ≡ after
 
+-- no reply comes after the last reply of the server, if a well-formed request is at the front of the bytes that the
+-- server has not read
+abbrev pub NoReplyAfter : {A : Type 0} → Server A → PackTools A → List ℕ → List ℕ → Type 0
+NoReplyAfter server tools left tail =
+    (asked : Asked) (more : List ℕ) → IsAsked profile server.graph.format asked
+    → left ≡ request_bytes server.graph.format asked ++ more → NoReply tools tail
+
 -- the rest of a fetch, from the beginning of round `n`
-pub record GoesOn {A : Type 0} (tools : PackTools A) (server : Server A) (w : WorldState A) (n : ℕ) (asked answered : List ℕ) (new : RepoState A)
-    (updates : List RefUpdate) : Type 0 where
+pub record GoesOn {A : Type 0} (tools : PackTools A) (server : Server A) (w : WorldState A) (n : ℕ) (asked answered rest : List ℕ)
+    (new : RepoState A) (updates : List RefUpdate) : Type 0 where
   pub more : List Kept
   pub taken : List Outcome
   pub last : WorldState A
@@ -132,8 +142,7 @@ pub record GoesOn {A : Type 0} (tools : PackTools A) (server : Server A) (w : Wo
   pub replies : last.kept ≡ w.kept ++ more
   pub requests : last.sent ≡ w.sent ++ map (λ one. one.asked) more
   pub wrote : asked ≡ flat_map (λ one. request_bytes server.graph.format one) (map (λ one. one.asked) more)
-  pub extra : List ℕ
-  pub read : answered ≡ flat_map (λ one. reply_bytes one.reply) more ++ extra
+  pub read : answered ≡ flat_map (λ one. reply_bytes one.reply) more ++ rest
 
 -- the end of a fetch
 pub record IsEnd {A : Type 0} (last : ClientState A) (new : RepoState A) (updates : List RefUpdate) : Type 0 where
@@ -249,11 +258,11 @@ module _ {A : Type 0} (tools : PackTools A) (server : Server A) where
     -- ---- all rounds, and the end
 
     ends_well : (first : ClientState A) (sent : List Asked) (kept : List Kept) (mark : Bool) (n : ℕ)
-        (answered : List ℕ) (new : RepoState A) (updates : List RefUpdate)
+        (answered rest : List ℕ) (new : RepoState A) (updates : List RefUpdate)
         → AreEndsConnected (world_at server first.session first.repo sent kept mark)
-        → IsPlain server.graph.format specs first.session → IsEnd first new updates
-        → GoesOn tools server (world_at server first.session first.repo sent kept mark) n [] answered new updates
-    ends_well first sent kept mark n answered new updates ends plain is_end =
+        → IsPlain server.graph.format specs first.session → IsEnd first new updates → answered ≡ rest
+        → GoesOn tools server (world_at server first.session first.repo sent kept mark) n [] answered rest new updates
+    ends_well first sent kept mark n answered rest new updates ends plain is_end left =
         let s = first.session in
         let after = record (over s) { asks = [] } in
         let w = world_at server s first.repo sent kept mark in
@@ -270,8 +279,7 @@ module _ {A : Type 0} (tools : PackTools A) (server : Server A) where
           replies = sym (append-nil kept);
           requests = sym (append-nil sent);
           wrote = refl;
-          extra = answered;
-          read = refl;
+          read = left;
         }
 
     pub goes_on : (turns : List Turn) (served : List Exchange) (first last : ClientState A)
@@ -283,17 +291,26 @@ module _ {A : Type 0} (tools : PackTools A) (server : Server A) where
         → SpellsAll (requests_read served) asks
         → asks ++ left ≡ requests_bytes server.graph.format turns ++ more
         → SpellsAll (replies_read turns) answers → answers ++ rest ≡ canonical_all (replies_written served) ++ tail
-        → NoReply tools tail → IsEnd last new updates
+        → NoReplyAfter server tools left tail → IsEnd last new updates
         → GoesOn tools server (world_at server first.session first.repo sent kept mark) n (requests_bytes server.graph.format turns)
-        (canonical_all (replies_written served) ++ tail) new updates
+        (canonical_all (replies_written served) ++ tail) rest new updates
     goes_on [] served first last sent kept mark n asks left more answers rest tail new updates count also ends plain
         turns serves asked_spelt asked_same read_spelt read_same none is_end =
-        ends_well first sent kept mark n (canonical_all (replies_written served) ++ tail) new updates ends plain
+        ends_well first sent kept mark n (canonical_all (replies_written served) ++ tail) rest new updates ends plain
         (subst (λ (c : ClientState A). IsEnd c new updates) turns is_end)
+        (sym read_same ∙ ap (λ (l : List ℕ). l ++ rest) read_spelt)
     goes_on (turn ∷ turns) [] first last sent kept mark n asks left more answers rest tail new updates count also ends
         plain (next, is_turn, later) serves asked_spelt asked_same read_spelt read_same none is_end =
         let parts = laws.split turn.reply (replies_read turns) answers read_spelt in
-        absurd (none is_turn.waiting turn.asked first next turn.reply parts.0 (parts.1 ++ rest) is_turn.takes parts.3
+        let format = server.graph.format in
+        let asked : HasAsked format specs turn.asked is_turn.waiting =
+        asks_well laws.replies.sessions format specs first.session is_turn.waiting first.repo.graph turn.asked plain
+        ends.graph sources is_turn.asks in
+        let remain : left ≡ request_bytes format turn.asked ++ (requests_bytes format turns ++ more) =
+        sym (ap (λ (l : List ℕ). l ++ left) asked_spelt) ∙ asked_same
+        ∙ append_assoc (request_bytes format turn.asked) (requests_bytes format turns) more in
+        absurd (none turn.asked (requests_bytes format turns ++ more) asked.well remain
+        is_turn.waiting turn.asked first next turn.reply parts.0 (parts.1 ++ rest) is_turn.takes parts.3
         (sym (append_assoc parts.0 parts.1 rest) ∙ ap (λ (l : List ℕ). l ++ rest) (sym parts.2) ∙ read_same))
     goes_on (turn ∷ turns) (serve ∷ served) first last sent kept mark n asks left more answers rest tail new updates
         count also ends plain (next, is_turn, later) serves asked_spelt asked_same read_spelt read_same none is_end =
@@ -342,8 +359,7 @@ module _ {A : Type 0} (tools : PackTools A) (server : Server A) where
           replies = then.replies ∙ append_assoc kept (one ∷ []) then.more;
           requests = then.requests ∙ append_assoc sent (turn.asked ∷ []) (map (λ (k : Kept). k.asked) then.more);
           wrote = ap (λ (b : List ℕ). request_bytes format turn.asked ++ b) then.wrote;
-          extra = then.extra;
           read = written ∙ ap (λ (b : List ℕ). reply_bytes serve.answer ++ b) then.read
               ∙ sym (append_assoc (reply_bytes serve.answer)
-              (flat_map (λ (k : Kept). reply_bytes k.reply) then.more) then.extra);
+              (flat_map (λ (k : Kept). reply_bytes k.reply) then.more) rest);
         }

@@ -4,13 +4,14 @@ use Rattle.std.proofs.Common.{inl, inr, refl, sym, ap, subst, append-nil, append
 use Rattle.std.specs.Io.KnownBytes.{Appends}
 use Rattle.std.specs.List.{flat_map}
 use Rattle.std.specs.Map.{values_of}
-use Rattle.std.proofs.lemmas.List.{append_cancel_left}
+use Rattle.std.proofs.lemmas.Grind.{flat_map-append}
+use Rattle.std.proofs.lemmas.List.{append_cancel_left, append_cancel_right}
+use Rattle.std.proofs.lemmas.List.Elements.{All-nil, All-push}
 use Rattle.gname.specs.declared.formats.Format.{Format}
 use Rattle.gname.specs.declared.formats.Format.TheVariants.{Sha1, Sha256}
-use Rattle.gpkt.specs.Laws.{HasFourBytes}
-use Rattle.gpkt.specs.PacketReading.{ReadsPackets}
+use Rattle.gpkt.specs.Laws.{HasFourBytes, SpellingsJoin}
 use Rattle.gpkt.specs.Packets.{Bytes, Packet, SpellsAll, canonical_all}
-use Rattle.gpkt.specs.Sending.{Input, Output, Passes}
+use Rattle.gpkt.specs.Sending.{Input, Output, Passes, rest_of}
 use Rattle.ggrammar.specs.Capabilities.{Capability}
 use Rattle.ggrammar.specs.Kinds.{CanonicalSays}
 use Rattle.ggrammar.specs.MessageBytes.{ReadsNoOther}
@@ -28,8 +29,8 @@ use Rattle.ganswer.specs.Adverts.{advertisement}
 use Rattle.ganswer.specs.Laws.{AdvertsWelcome}
 use Rattle.ganswer.specs.Servers.{Server}
 use Rattle.ganswer.specs.declared.fault.ServeFault.{ServeFault}
-use Rattle.gserve.specs.Conversations.{Converses as Exchanges, Serves, advert_packets, talk, talk_bytes}
-use Rattle.gserve.specs.Exchanges.{IsTurn as IsExchange, Turn as Exchange, reply_packets}
+use Rattle.gserve.specs.Conversations.{CannotBegin, Converses, HasEnded, IsDueFirst, Serves, advert as first_advert, advert_packets, refusal as first_refusal, talk, talk_bytes}
+use Rattle.gserve.specs.Exchanges.{IsDue, IsRefused, IsTurn as IsExchange, ReadsEmpty, ReadsTurn, ReadsTurns, Turn as Exchange, refusal, reply, reply_packets}
 use Rattle.gserve.specs.Refusals.{err_packets, err_text}
 use Rattle.gserve.specs.declared.connection.End.{End}
 use Rattle.gserve.specs.declared.connection.End.TheVariants as end
@@ -45,16 +46,17 @@ use Rattle.gworld.specs.Events.{Step}
 use Rattle.gworld.specs.Laws.{NewWorldsAreSound, RunsKeepPromises, StepsListed}
 use Rattle.gworld.specs.Runs.{Run, RunWith}
 use Rattle.gworld.specs.Sound.{AreEndsConnected}
-use Rattle.gworld.specs.Worlds.{PackTools, WorldState, new_world}
+use Rattle.gworld.specs.Worlds.{Kept, PackTools, WorldState, new_world, reply_bytes}
 use Rattle.gworld.specs.declared.outcome.Outcome.{Outcome}
 use Rattle.gworld.specs.declared.outcome.Outcome.TheVariants as outcomes
 use Rattle.gworld.proofs.Runs.{run_maps}
-use Rattle.gjoined.specs.Joined.{Carries, HasWritten, FetchesAreRuns, IsWorldRun, fetch_events, fetch_outcomes}
-use Rattle.gjoined.proofs.Bytes.{one_front}
+use Rattle.gjoined.specs.Joined.{Carries, FetchesAreRuns, IsWorldRun, fetch_events, fetch_outcomes}
+use Rattle.gjoined.proofs.Bytes.{one_front, read_from}
 use Rattle.gjoined.proofs.Errors.{ErrorLaws, error_bytes, no_advert}
 use Rattle.gjoined.proofs.Plain.{IsPlain}
+use Rattle.gjoined.proofs.Refusals.{IdLaws, begun_short, refused_short}
 use Rattle.gjoined.proofs.Replies.{NoReply, no_bytes, no_error}
-use Rattle.gjoined.proofs.Rounds.{GoesOn, IsEnd, RoundLaws, goes_on, replies_read, replies_written, requests_read, stepped}
+use Rattle.gjoined.proofs.Rounds.{GoesOn, IsEnd, NoReplyAfter, RoundLaws, goes_on, replies_read, replies_written, requests_read, stepped}
 use Rattle.gjoined.proofs.Rounds.{world_at}
 use Rattle.gjoined.proofs.Sources.{AreSources, sources}
 
@@ -68,35 +70,19 @@ pub record JoinedLaws {A : Type 0} (tools : PackTools A) : Type 0 where
   pub keeps : RunsKeepPromises tools
   pub four : HasFourBytes
   pub errors : ErrorLaws
+  pub join : SpellingsJoin
+  pub ids : IdLaws
 
 -- ---- the bytes at both ends
 
 -- the bytes that the other end can read are the bytes that were written
-carried : {output : Output} {input : Input} {bytes written : List ℕ} → Carries output input bytes → Passes output written
-    → bytes ≡ written
-carried {output} {input} {bytes} {written} carries passes =
+carried : {output : Output} {input : Input} {bytes : List ℕ} → Carries output input bytes → (written : List ℕ)
+    → Appends output.written.old output.written.new written → bytes ≡ written
+carried {output} {input} {bytes} carries written wrote =
     let appends : Appends (Some carries.before) (Some (carries.before ++ bytes)) written =
     subst (λ (old : Option (List ℕ)). Appends old (Some (carries.before ++ bytes)) written) carries.old
-    (subst (λ (new : Option (List ℕ)). Appends output.written.old new written) carries.new passes.written) in
+    (subst (λ (new : Option (List ℕ)). Appends output.written.old new written) carries.new wrote) in
     append_cancel_left carries.before bytes written appends
-
--- the packets are read from the front of known bytes
-pub record IsReadFrom (bytes : List ℕ) (lines : List Packet) : Type 0 where
-  pub front : List ℕ
-  pub left : List ℕ
-  pub parts : bytes ≡ front ++ left
-  pub spelt : SpellsAll lines front
-
-read_known : (bytes : List ℕ) (new : Option (List ℕ)) (lines : List Packet)
-    → ReadsPackets (record { old = Some bytes; new = new }) lines → IsReadFrom bytes lines
-read_known bytes None lines h = absurd h
-read_known bytes (Some left) lines h = record { front = h.0; left = left; parts = h.1; spelt = h.2 }
-
-read_from : (old new : Option (List ℕ)) (bytes : List ℕ) (lines : List Packet) → old ≡ Some bytes
-    → ReadsPackets (record { old = old; new = new }) lines → IsReadFrom bytes lines
-read_from old new bytes lines is h =
-    read_known bytes new lines
-    (subst (λ (o : Option (List ℕ)). ReadsPackets (record { old = o; new = new }) lines) is h)
 
 -- ---- the advertisement
 
@@ -112,22 +98,27 @@ pub record IsHeard (format : Format) (capabilities : List Capability) (rest afte
   pub same : capabilities ≡ advertisement format
   pub left : rest ≡ after
 
--- the server read requests from the bytes, and its replies to them are the bytes behind the advertisement; no reply
--- comes after them
+-- The server read requests from the bytes, and `answered` is the advertisement, its replies, and `tail`. If the server
+-- failed to write, `answered` lacks the bytes `missing`. No reply comes in `tail`.
 pub record HasServed {A : Type 0} (tools : PackTools A) (server : Server A) (asked answered : List ℕ) : Type 0 where
   pub served : List Exchange
-  pub reads : IsReadFrom asked (requests_read served)
+  pub front : List ℕ
+  pub left : List ℕ
+  pub parts : asked ≡ front ++ left
+  pub spelt : SpellsAll (requests_read served) front
   pub each : All (IsExchange server tools.packs) served
   pub tail : List ℕ
-  pub none : NoReply tools tail
-  pub wrote : answered
+  pub none : NoReplyAfter server tools left tail
+  pub missing : List ℕ
+  pub wrote : answered ++ missing
       ≡ canonical_all (advert_packets server.graph.format) ++ (canonical_all (replies_written served) ++ tail)
 
--- the server wrote nothing but an error packet
+-- the server wrote nothing but an error packet, or a prefix of it
 pub record HasRefused (answered : List ℕ) : Type 0 where
   pub said : List ℕ
   pub short : length said ≤ 128
-  pub wrote : answered ≡ error_bytes said
+  pub missing : List ℕ
+  pub wrote : answered ++ missing ≡ error_bytes said
 
 error_written : (fault : ServeFault) → canonical_all (err_packets fault) ≡ error_bytes (err_text fault)
 unfolding err_packets
@@ -163,45 +154,180 @@ module _ {A : Type 0} {tools : PackTools A} (laws : JoinedLaws tools) where
 
   -- ---- the server's part
 
-  has_served : (server : Server A) (input : Input) (output : Output) (other : Output) (back : Input)
-      (asked answered tail : List ℕ) (count : ℕ) (served : List Exchange) (Last : Input → Type 0)
-      → Carries other input asked → Carries output back answered
-      → Exchanges server tools.packs input count served Last → NoReply tools tail
-      → Passes output (talk_bytes server.graph.format Plain served ++ tail) → HasServed tools server asked answered
-  has_served server input output other back asked answered tail count served Last to from conversed none passes =
-      let format = server.graph.format in record {
-        served = served;
-        reads = read_from input.read.old conversed.between asked (requests_read served) to.read conversed.read.lines;
-        each = conversed.read.each;
-        tail = tail;
-        none = none;
-        wrote = carried from passes ∙ ap (λ (b : List ℕ). b ++ tail) (talk_parts format served)
-            ∙ append_assoc (canonical_all (advert_packets format)) (canonical_all (replies_written served)) tail;
-      }
+  -- what a server wrote behind its replies: nothing, an error packet, or a part of it
+  module _ (server : Server A) (input : Input) (output : Output) (other : Output) (back : Input)
+      (asked answered : List ℕ) (to : Carries other input asked) (from : Carries output back answered) where
+    abbrev sent_bytes : List Exchange → List ℕ
+    sent_bytes served = talk_bytes server.graph.format Plain served
 
-  -- the output of a conversation without an error packet
-  without_error : (output : Output) (bytes : List ℕ) → Passes output bytes → Passes output (bytes ++ [])
-  without_error output bytes passes = subst (Passes output) (sym (append-nil bytes)) passes
+    has_served : (served : List Exchange) (between : Option (List ℕ)) (tail written missing : List ℕ)
+        → ReadsTurns server tools.packs (record { old = input.read.old; new = between }) served
+        → ((left : List ℕ) → between ≡ Some left → NoReplyAfter server tools left tail)
+        → Appends output.written.old output.written.new written → written ++ missing ≡ sent_bytes served ++ tail
+        → HasServed tools server asked answered
+    has_served served between tail written missing reads none wrote same =
+        let format = server.graph.format in
+        let read = read_from input.read.old between asked (requests_read served) to.read reads.lines in record {
+          served = served;
+          front = read.front;
+          left = read.left;
+          parts = read.parts;
+          spelt = read.spelt;
+          each = reads.each;
+          tail = tail;
+          none = none read.left read.is;
+          missing = missing;
+          wrote = ap (λ (b : List ℕ). b ++ missing) (carried from written wrote) ∙ same
+              ∙ ap (λ (b : List ℕ). b ++ tail) (talk_parts format served)
+              ∙ append_assoc (canonical_all (advert_packets format)) (canonical_all (replies_written served)) tail;
+        }
 
-  serves_well : (server : Server A) (input : Input) (output : Output) (other : Output) (back : Input)
-      (asked answered : List ℕ) (count : ℕ) (ended : End) → Carries other input asked → Carries output back answered
-      → Serves server tools.packs tools.pack_fails Plain input output count ended → HasWritten ended
-      → HasServed tools server asked answered ⊎ HasRefused answered
-  serves_well server input output other back asked answered count end.Closed to from (served, room, conversed, passes) well =
-      inl (has_served server input output other back asked answered [] count served _ to from conversed
-      (no_bytes tools laws.four) (without_error output _ passes))
-  serves_well server input output other back asked answered count end.Ended to from (served, conversed, passes) well =
-      inl (has_served server input output other back asked answered [] count served _ to from conversed
-      (no_bytes tools laws.four) (without_error output _ passes))
-  serves_well server input output other back asked answered count (end.Refused fault) to from
-      (inl (served, room, conversed, passes)) well =
-      inl (has_served server input output other back asked answered (error_bytes (err_text fault)) count served _ to from
-      conversed (no_error tools laws.errors (err_text fault) well)
-      (subst (λ (b : List ℕ). Passes output (talk_bytes server.graph.format Plain served ++ b)) (error_written fault) passes))
-  serves_well server input output other back asked answered count (end.Refused fault) to from
-      (inr (none, begins, passes)) well =
-      inr (record { said = err_text fault; short = well; wrote = carried from passes ∙ error_written fault })
-  serves_well server input output other back asked answered count end.WriteFailed to from serves well = absurd well
+    -- the conversation ended without an error packet
+    has_ended : (count : ℕ) (served : List Exchange) (Last : Input → Type 0)
+        → Converses server tools.packs input count served Last → Passes output (sent_bytes served)
+        → HasServed tools server asked answered
+    has_ended count served Last conversed passes =
+        has_served served conversed.between [] (sent_bytes served) [] conversed.read
+        (λ left is request more well same. no_bytes tools laws.four) passes.written refl
+
+    -- no reply comes in the error packet of a refusal
+    no_reply : (between : Option (List ℕ)) (fault : ServeFault)
+        → IsRefused server tools.pack_fails (rest_of input between) fault → (left : List ℕ) → between ≡ Some left
+        → NoReplyAfter server tools left (error_bytes (err_text fault))
+    no_reply between fault refused left is request more well same =
+        no_error tools laws.errors (err_text fault)
+        (refused_short laws.ids laws.rounds.requests server tools.pack_fails (rest_of input between) left more request
+        fault refused is well same)
+
+    -- the conversation ended with an error packet, or with a part of it
+    has_refused : (count : ℕ) (served : List Exchange) (fault : ServeFault) (written missing : List ℕ)
+        → Converses server tools.packs input count served
+        (λ (rest : Input). IsRefused server tools.pack_fails rest fault)
+        → Appends output.written.old output.written.new written
+        → written ++ missing ≡ sent_bytes served ++ canonical_all (err_packets fault)
+        → HasServed tools server asked answered
+    has_refused count served fault written missing conversed wrote same =
+        has_served served conversed.between (error_bytes (err_text fault)) written missing conversed.read
+        (no_reply conversed.between fault conversed.last) wrote
+        (same ∙ ap (λ (b : List ℕ). sent_bytes served ++ b) (error_written fault))
+
+    refused_at_once : (fault : ServeFault) (written missing : List ℕ) → CannotBegin input fault
+        → Appends output.written.old output.written.new written
+        → written ++ missing ≡ canonical_all (err_packets fault) → HasRefused answered
+    refused_at_once fault written missing begins wrote same = record {
+      said = err_text fault;
+      short = begun_short input fault begins;
+      missing = missing;
+      wrote = ap (λ (b : List ℕ). b ++ missing) (carried from written wrote) ∙ same ∙ error_written fault;
+    }
+
+    -- ---- a server that failed to write
+
+    -- the list of exchanges with one more exchange
+    more_read : (served : List Exchange) (turn : Exchange)
+        → requests_read (served ++ turn ∷ []) ≡ requests_read served ++ turn.request
+    more_read served turn =
+        flat_map-append (λ (t : Exchange). t.request) served (turn ∷ [])
+        ∙ ap (λ (l : List Packet). requests_read served ++ l) (append-nil turn.request)
+
+    more_written : (served : List Exchange) (turn : Exchange)
+        → replies_written (served ++ turn ∷ []) ≡ replies_written served ++ reply_packets Plain turn.answer
+    more_written served turn =
+        flat_map-append (λ (t : Exchange). reply_packets Plain t.answer) served (turn ∷ [])
+        ∙ ap (λ (l : List Packet). replies_written served ++ l) (append-nil (reply_packets Plain turn.answer))
+
+    -- the last reply was not written whole
+    lacks_reply : (count : ℕ) (served : List Exchange) (turn : Exchange) (written missing : List ℕ)
+        (Last : Input → Type 0) → (conversed : Converses server tools.packs input count served Last)
+        → ReadsTurn server tools.packs (rest_of input conversed.between) turn
+        → Appends output.written.old output.written.new written
+        → written ++ missing ≡ sent_bytes served ++ canonical_all (reply_packets Plain turn.answer)
+        → HasServed tools server asked answered
+    lacks_reply count served turn written missing Last conversed reads wrote same =
+        let format = server.graph.format in
+        let packets = reply_packets Plain turn.answer in
+        let first = read_from input.read.old conversed.between asked (requests_read served) to.read
+        conversed.read.lines in
+        let last = read_from conversed.between input.read.new first.left turn.request first.is reads.lines in record {
+          served = served ++ turn ∷ [];
+          front = first.front ++ last.front;
+          left = last.left;
+          parts = first.parts ∙ ap (λ (b : List ℕ). first.front ++ b) last.parts
+              ∙ sym (append_assoc first.front last.front last.left);
+          spelt = subst (λ (l : List Packet). SpellsAll l (first.front ++ last.front)) (sym (more_read served turn))
+              (laws.join (requests_read served) turn.request first.front last.front first.spelt last.spelt);
+          each = All-push (IsExchange server tools.packs) served turn conversed.read.each reads.is_turn;
+          tail = [];
+          none = λ request more well is. no_bytes tools laws.four;
+          missing = missing;
+          wrote = ap (λ (b : List ℕ). b ++ missing) (carried from written wrote) ∙ same
+              ∙ ap (λ (b : List ℕ). b ++ canonical_all packets) (talk_parts format served)
+              ∙ append_assoc (canonical_all (advert_packets format)) (canonical_all (replies_written served))
+              (canonical_all packets)
+              ∙ ap (λ (b : List ℕ). canonical_all (advert_packets format) ++ b)
+              (sym (laws.rounds.joins (replies_written served) packets)
+              ∙ ap canonical_all (sym (more_written served turn))
+              ∙ sym (append-nil (canonical_all (replies_written (served ++ turn ∷ [])))));
+        }
+
+    -- the last message was not written whole
+    lacks_due : (count : ℕ) (served : List Exchange) (due : List Packet) (written missing : List ℕ)
+        (Last : Input → Type 0) → (conversed : Converses server tools.packs input count served Last)
+        → IsDue server tools.packs tools.pack_fails Plain (rest_of input conversed.between) due
+        → Appends output.written.old output.written.new written
+        → written ++ missing ≡ sent_bytes served ++ canonical_all due → HasServed tools server asked answered
+    lacks_due count served due written missing Last conversed (reply turn reads) wrote same =
+        lacks_reply count served turn written missing Last conversed reads wrote same
+    lacks_due count served due written missing Last conversed (refusal fault refused) wrote same =
+        has_refused count served fault written missing
+        (record { between = conversed.between; read = conversed.read; count = conversed.count; last = refused }) wrote
+        same
+
+    -- the first message was not written whole
+    lacks_first : (due : List Packet) (written missing : List ℕ) → IsDueFirst server.graph.format input due
+        → Appends output.written.old output.written.new written → written ++ missing ≡ canonical_all due
+        → HasServed tools server asked answered ⊎ HasRefused answered
+    lacks_first due written missing (first_advert unread) wrote same =
+        let all = canonical_all (advert_packets server.graph.format) in
+        inl (record {
+          served = [];
+          front = [];
+          left = asked;
+          parts = refl;
+          spelt = refl;
+          each = All-nil (IsExchange server tools.packs);
+          tail = [];
+          none = λ request more well is. no_bytes tools laws.four;
+          missing = missing;
+          wrote = ap (λ (b : List ℕ). b ++ missing) (carried from written wrote) ∙ same ∙ sym (append-nil all);
+        })
+    lacks_first due written missing (first_refusal fault begins) wrote same =
+        inr (refused_at_once fault written missing begins wrote same)
+
+    -- ---- every end of a conversation
+
+    all_sent : (bytes : List ℕ) → bytes ++ [] ≡ bytes
+    all_sent bytes = append-nil bytes
+
+    serves : (count : ℕ) (ended : End) → Serves server tools.packs tools.pack_fails Plain input output count ended
+        → HasServed tools server asked answered ⊎ HasRefused answered
+    serves count end.Closed (served, room, conversed, passes) =
+        inl (has_ended count served (ReadsEmpty server.graph.format) conversed passes)
+    serves count end.Ended (served, conversed, passes) = inl (has_ended count served (HasEnded count) conversed passes)
+    serves count (end.Refused fault) (inl (served, room, conversed, passes)) =
+        let written = sent_bytes served ++ canonical_all (err_packets fault) in
+        inl (has_refused count served fault written [] conversed passes.written (append-nil written))
+    serves count (end.Refused fault) (inr (none, begins, passes)) =
+        let written = canonical_all (err_packets fault) in
+        inr (refused_at_once fault written [] begins passes.written (append-nil written))
+    serves count end.WriteFailed (inl (served, due, room, conversed, sends)) =
+        inl (lacks_due count served due (sent_bytes served ++ sends.front) sends.rest
+        (λ (rest : Input). IsDue server tools.packs tools.pack_fails Plain rest due) conversed conversed.last
+        sends.written
+        (append_assoc (sent_bytes served) sends.front sends.rest
+        ∙ ap (λ (b : List ℕ). sent_bytes served ++ b) (sym sends.parts)))
+    serves count end.WriteFailed (inr (due, none, first, sends, keeps)) =
+        lacks_first due sends.front sends.rest first sends.written (sym sends.parts)
 
   -- ---- the beginning
 
@@ -236,14 +362,18 @@ module _ {A : Type 0} {tools : PackTools A} (laws : JoinedLaws tools) where
     format = server.graph.format
 
     -- the run, from the rest of the fetch behind the event `Begin`
-    whole_run : (session : SessionState A) (left : List ℕ) → AreEndsConnected (new_world server repo)
-        → StepsListed tools (new_world server repo) (event.Begin specs) outcomes.Done (world_at server session repo [] [] false)
-        → asked ≡ left ++ request_bytes format Empty → (rest : List ℕ)
-        → answered ≡ canonical_all (advert_packets format) ++ rest
-        → GoesOn tools server (world_at server session repo [] [] false) 0 left rest new updates
-        → IsWorldRun tools server repo specs asked answered new fetched
-    whole_run session left ends first wrote rest read then =
+    whole_run : (session : SessionState A) (wanted : List ℕ) (unread : Option (List ℕ)) (rest left missing : List ℕ)
+        → AreEndsConnected (new_world server repo)
+        → StepsListed tools (new_world server repo) (event.Begin specs) outcomes.Done
+        (world_at server session repo [] [] false)
+        → asked ≡ wanted ++ request_bytes format Empty
+        → answered ++ missing ≡ canonical_all (advert_packets format) ++ rest → unread ≡ Some left
+        → GoesOn tools server (world_at server session repo [] [] false) 0 wanted rest (left ++ missing) new updates
+        → IsWorldRun tools server repo specs asked answered unread new fetched
+    whole_run session wanted unread rest left missing ends first wrote read is then =
         let w = new_world server repo in
+        let hello = canonical_all (advert_packets format) in
+        let replies = flat_map (λ (one : Kept). reply_bytes one.reply) then.more in
         let run : RunWith (StepsListed tools) w (fetch_events specs then.more) (fetch_outcomes then.taken updates)
         then.last = (world_at server session repo [] [] false, first, then.run) in record {
           kept = then.more;
@@ -261,17 +391,27 @@ module _ {A : Type 0} {tools : PackTools A} (laws : JoinedLaws tools) where
           requests = then.requests;
           wrote = wrote ∙ ap (λ (b : List ℕ). b ++ request_bytes format Empty) (then.wrote
               ∙ ap (λ (l : List Asked). flat_map (λ one. request_bytes format one) l) (sym then.requests));
-          more = then.extra;
-          read = read ∙ ap (λ (b : List ℕ). canonical_all (advert_packets format) ++ b) then.read;
+          more = left;
+          read = append_cancel_right answered (hello ++ replies ++ left) missing
+              (read ∙ ap (λ (b : List ℕ). hello ++ b) then.read ∙ sym (append_assoc hello replies (left ++ missing))
+              ∙ sym (append_assoc (hello ++ replies) left missing));
+          rest = is;
         }
 
+    -- the bytes that the client read first, and the bytes behind them
+    read_parts : (first then left missing front whole rest : List ℕ) → answered ≡ front ++ left → front ≡ first ++ then
+        → answered ++ missing ≡ whole ++ rest → first ++ (then ++ (left ++ missing)) ≡ whole ++ rest
+    read_parts first then left missing front whole rest parts both same =
+        sym (append_assoc first then (left ++ missing)) ∙ ap (λ (l : List ℕ). l ++ (left ++ missing)) (sym both)
+        ∙ sym (append_assoc front left missing) ∙ ap (λ (l : List ℕ). l ++ missing) (sym parts) ∙ same
+
     -- a fetch over the bytes of a server
-    fetched_run : (input : Input) (output : Output) (back : Output) (to : Input) → AreEndsConnected (new_world server repo)
-        → AreSources specs.items → IsRefs new.refs → Carries output to asked → Carries back input answered
-        → HasServed tools server asked answered
+    fetched_run : (input : Input) (output : Output) (back : Output) (to : Input)
+        → AreEndsConnected (new_world server repo) → AreSources specs.items → IsRefs new.refs
+        → Carries output to asked → Carries back input answered → HasServed tools server asked answered
         → HasFetched tools.indexes tools.index_fails (start_of repo specs.items default_limit Plain) input output new
         fetched
-        → IsWorldRun tools server repo specs asked answered new fetched
+        → IsWorldRun tools server repo specs asked answered input.read.new new fetched
     fetched_run input output back to ends valid_sources refs sends receives served h =
         let start = start_of repo specs.items default_limit Plain in
         let conversed = h.converses in
@@ -280,16 +420,17 @@ module _ {A : Type 0} {tools : PackTools A} (laws : JoinedLaws tools) where
         let read = read_from input.read.old conversed.between answered (conversed.packets ++ replies_read turns)
         receives.read conversed.read in
         let parts = laws.rounds.split conversed.packets (replies_read turns) read.front read.spelt in
-        let hears : IsHeard format conversed.capabilities (parts.1 ++ read.left) replies =
-        heard format conversed.packets conversed.capabilities parts.0 (parts.1 ++ read.left) replies
+        let rest = read.left ++ served.missing in
+        let hears : IsHeard format conversed.capabilities (parts.1 ++ rest) replies =
+        heard format conversed.packets conversed.capabilities parts.0 (parts.1 ++ rest) replies
         conversed.advertises.says parts.3
-        (sym (append_assoc parts.0 parts.1 read.left) ∙ ap (λ (l : List ℕ). l ++ read.left) (sym parts.2)
-        ∙ sym read.parts ∙ served.wrote) in
+        (read_parts parts.0 parts.1 read.left served.missing read.front (canonical_all (advert_packets format)) replies
+        read.parts parts.2 served.wrote) in
         let formats : repo.graph.format ≡ format = one_format repo.graph.format format
         (subst (λ (c : List Capability). check_fault repo.graph.format c ≡ None) hears.same
         conversed.advertises.fits) in
         let wrote : asked ≡ requests_bytes format turns ++ request_bytes format Empty =
-        carried sends h.passed
+        carried sends (requests_bytes repo.graph.format turns ++ request_bytes repo.graph.format Empty) h.passed.written
         ∙ ap (λ (f : Format). requests_bytes f turns ++ request_bytes f Empty) formats in
         let first = hear_advert start conversed.capabilities in
         let valid = begun_session repo specs.items conversed.capabilities ends.repo ends.graph conversed.few in
@@ -303,12 +444,13 @@ module _ {A : Type 0} {tools : PackTools A} (laws : JoinedLaws tools) where
           limits_are = refl;
           specs_are = refl;
         } in
-        let then = goes_on tools server laws.rounds ends.server specs.items valid_sources turns served.served first h.last []
-        [] false 0 served.reads.front served.reads.left (request_bytes format Empty) parts.1 read.left served.tail new updates
-        refl refl begun_step.1 plain conversed.each served.each served.reads.spelt (sym served.reads.parts ∙ wrote)
-        parts.4 hears.left served.none
+        let then = goes_on tools server laws.rounds ends.server specs.items valid_sources turns served.served first
+        h.last [] [] false 0 served.front served.left (request_bytes format Empty) parts.1 rest served.tail new updates
+        refl refl begun_step.1 plain conversed.each served.each served.spelt (sym served.parts ∙ wrote) parts.4
+        hears.left served.none
         (record { stage = h.settles_next; settles = h.settles; refs_after = refs }) in
-        whole_run first.session (requests_bytes format turns) ends begun_step.0 wrote replies served.wrote then
+        whole_run first.session (requests_bytes format turns) input.read.new replies read.left served.missing ends
+        begun_step.0 wrote served.wrote (conversed.rest.unread ∙ read.is) then
 
     -- a client accepts no error packet as the advertisement
     refused_none : (input : Input) (output : Output) (back : Output) → Carries back input answered → HasRefused answered
@@ -320,17 +462,18 @@ module _ {A : Type 0} {tools : PackTools A} (laws : JoinedLaws tools) where
         let read = read_from input.read.old conversed.between answered (conversed.packets ++ replies) receives.read
         conversed.read in
         let parts = laws.rounds.split conversed.packets replies read.front read.spelt in
-        no_advert laws.errors conversed.packets parts.0 (parts.1 ++ read.left) refused.said refused.short
-        conversed.advertises.says.whole parts.3
-        (sym (append_assoc parts.0 parts.1 read.left) ∙ ap (λ (l : List ℕ). l ++ read.left) (sym parts.2)
-        ∙ sym read.parts ∙ refused.wrote)
+        no_advert laws.errors conversed.packets parts.0 (parts.1 ++ (read.left ++ refused.missing)) refused.said
+        refused.short conversed.advertises.says.whole parts.3
+        (read_parts parts.0 parts.1 read.left refused.missing read.front [] (error_bytes refused.said) read.parts parts.2
+        refused.wrote)
 
   pub fetches_are_runs : FetchesAreRuns tools
   fetches_are_runs server repo new specs fetched input heard_in output said asked answered count ended ends specs_are refs
-      sends receives fetches serves well =
-      elim (serves_well server heard_in said output input asked answered count ended sends receives serves well) as (λ _. IsWorldRun tools server repo specs asked answered new fetched) [
-        | inl served ↦ fetched_run server repo new specs fetched asked answered input output said heard_in ends
-            (sources specs.items specs_are) refs sends receives served fetches
+      sends receives fetches served =
+      elim (serves server heard_in said output input asked answered sends receives count ended served)
+      as (λ _. IsWorldRun tools server repo specs asked answered input.read.new new fetched) [
+        | inl whole ↦ fetched_run server repo new specs fetched asked answered input output said heard_in ends
+            (sources specs.items specs_are) refs sends receives whole fetches
         | inr refused ↦ absurd (refused_none server repo new specs fetched asked answered input output said receives
             refused fetches)
       ]

@@ -1,6 +1,6 @@
 -- Two connected ends: a client that fetches from a server, each of which reads the bytes that the other wrote. Such a
 -- fetch is a run of a world.
-use Rattle.std.specs.Prelude.{◌≡◌, ⊤, ℕ, ◌+◌, ◌≤◌, List, [], ◌∷◌, ◌++◌, length, map, All, Some, Ok, Vec}
+use Rattle.std.specs.Prelude.{◌≡◌, ℕ, ◌+◌, List, [], ◌∷◌, ◌++◌, length, map, All, Option, Some, Ok, Vec}
 use Rattle.std.specs.List.{flat_map}
 use Rattle.gpkt.specs.Packets.{Bytes, canonical_all}
 use Rattle.gpkt.specs.Sending.{Input, Output}
@@ -13,9 +13,7 @@ use Rattle.gclientrepo.specs.Repos.{RepoState}
 use Rattle.gclientrepo.specs.declared.ask.RefUpdate.{RefUpdate}
 use Rattle.ganswer.specs.Servers.{Server}
 use Rattle.gserve.specs.Conversations.{Serves, advert_packets}
-use Rattle.gserve.specs.Refusals.{err_text, max_err_text}
 use Rattle.gserve.specs.declared.connection.End.{End}
-use Rattle.gserve.specs.declared.connection.End.TheVariants as end
 use Rattle.gfetch.specs.Conversations.{FetchesOver, request_bytes}
 use Rattle.gfetch.specs.Starts.{start_of}
 use Rattle.gfetch.specs.declared.fetched.Fetched.{Fetched}
@@ -64,20 +62,12 @@ fetch_outcomes taken updates = outcomes.Done ∷ outcomes_from 0 taken updates
 
 -- ---- the law
 
--- the server could write all that it had to write; the error packet of a refusal has a text of at most 128 bytes, as
--- `gserve::err_text` ensures of every fault
-abbrev pub HasWritten : End → Type 0
-HasWritten end.Closed = ⊤
-HasWritten end.Ended = ⊤
-HasWritten (end.Refused fault) = length (err_text fault) ≤ max_err_text
-HasWritten end.WriteFailed = ⊥
-
 module _ {A : Type 0} (tools : PackTools A) where
   -- The run of a world of this server and this client: its last world has the repository `new` and an unchanged server.
   -- The client wrote exactly the requests of the run, and a lone flush packet. It read the advertisement and exactly the
-  -- replies of the run. If the world can start, each step keeps its promises.
+  -- replies of the run, and left `unread`. If the world can start, each step keeps its promises.
   pub record IsWorldRun (server : Server A) (repo : RepoState A) (specs : Vec Refspec A) (asked answered : Bytes)
-      (new : RepoState A) (fetched : Fetched A) : Type 0 where
+      (unread : Option Bytes) (new : RepoState A) (fetched : Fetched A) : Type 0 where
     pub kept : List Kept
     pub taken : List Outcome
     pub last : WorldState A
@@ -95,10 +85,11 @@ module _ {A : Type 0} (tools : PackTools A) where
     pub more : Bytes
     pub read : answered ≡ canonical_all (advert_packets server.graph.format)
         ++ flat_map (λ one. reply_bytes one.reply) kept ++ more
+    pub rest : unread ≡ Some more
 
-  -- A plain fetch that succeeds, and the conversation of a server that could write, are a run of the world of the same
-  -- server and the same client, if each end reads exactly the bytes that the other wrote. The last world of the run has
-  -- the repository that the fetch left.
+  -- A plain fetch that succeeds, and the conversation of a server, are a run of the world of the same server and the
+  -- same client, if each end reads exactly the bytes that the other wrote. The last world of the run has the repository
+  -- that the fetch left.
   abbrev pub FetchesAreRuns : Type 0
   FetchesAreRuns =
       (server : Server A) (repo new : RepoState A) (specs : Vec Refspec A) (fetched : Fetched A) (input heard : Input)
@@ -107,5 +98,5 @@ module _ {A : Type 0} (tools : PackTools A) where
       → Carries output heard asked → Carries said input answered
       → FetchesOver tools.indexes tools.index_fails (start_of repo specs.items default_limit Plain) input output new
       (Ok fetched)
-      → Serves server tools.packs tools.pack_fails Plain heard said count ended → HasWritten ended
-      → IsWorldRun server repo specs asked answered new fetched
+      → Serves server tools.packs tools.pack_fails Plain heard said count ended
+      → IsWorldRun server repo specs asked answered input.read.new new fetched

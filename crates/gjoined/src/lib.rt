@@ -46,7 +46,7 @@ use ggrammar::laws::messages_are_read;
 use ggraph::graph_laws::{distinct_are_once, offers_are_exact, positions_are_nodes};
 use ggraph::{KeepingIndexer, Packer};
 use gmsg::laws::replies_differ;
-use gname::laws::ids_have_one_format;
+use gname::laws::{ids_have_one_format, ids_have_texts};
 use gpkt::laws::{canonical_spells, has_four_bytes, one_begins, one_reading, spellings_join};
 use gworld::laws::{ends_stay_connected, runs_keep_promises};
 use std::alloc::Allocator;
@@ -65,6 +65,7 @@ pub fn fetches_are_runs<A: Allocator + Copy, P: Packer<A>, I: KeepingIndexer<A>>
     one_reading();
     messages_are_read();
     ids_have_one_format();
+    ids_have_texts();
     distinct_are_once();
     positions_are_nodes::<A>();
     offers_are_exact::<A>();

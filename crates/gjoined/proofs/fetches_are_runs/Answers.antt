@@ -49,6 +49,8 @@ returns g c = λ k.
       sound = c.runs_keep_promises.ensures.begins k;
       keeps = c.runs_keep_promises.ensures.keeps k;
       four = c.has_four_bytes.ensures;
+      join = c.spellings_join.ensures.join;
+      ids = record { formats = c.ids_have_one_format.ensures; spelt = c.ids_have_texts.ensures };
       errors = record { spells = c.canonical_spells.ensures.line; reading = c.one_reading.ensures };
     } in
     fetches_are_runs laws
