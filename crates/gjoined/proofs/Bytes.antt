@@ -1,5 +1,5 @@
 -- Messages at the front of the same bytes.
-use Rattle.std.proofs.Common.{[], ◌∷◌, ◌++◌, ◌≡◌, ◌+◌, ◌≤◌, ℕ, List, length, Option, Some, None, refl, ap, subst, arith}
+use Rattle.std.proofs.Common.{[], ◌∷◌, ◌++◌, ◌≡◌, ℕ, List, length, Option, Some, None, refl, ap, subst, arith}
 use Rattle.std.proofs.Common.{length-append}
 use Rattle.gpkt.specs.Laws.{HasFourBytes}
 use Rattle.gpkt.specs.PacketReading.{ReadsPackets}

@@ -1,6 +1,6 @@
 -- An error packet begins neither an advertisement nor a reply.
 use Rattle.std.proofs.Common.{[], ◌∷◌, ◌++◌, ◌≡◌, ◌∙◌, ◌≤◌, ℕ, Bool, true, false, List, length, codes, Option, Some}
-use Rattle.std.proofs.Common.{refl, sym, ap, subst, arith, append_assoc, length-append}
+use Rattle.std.proofs.Common.{refl, sym, ap, arith, append_assoc, length-append}
 use Rattle.gname.specs.declared.formats.Format.{Format}
 use Rattle.gpkt.specs.Laws.{CanonicalSpells, Fits, OneReading}
 use Rattle.gpkt.specs.Packets.{Bytes, Data, Packet, SpellsAll, canonical, canonical_all, line_feed}

@@ -1,12 +1,12 @@
 -- The session of a plain fetch: it stays valid, and makes well-formed requests.
-use Rattle.std.proofs.Common.{[], ◌∷◌, ◌++◌, ◌≡◌, ◌∙◌, ◌≤◌, ◌+◌, ℕ, Bool, true, false, if◌then◌else◌, List, length, map}
-use Rattle.std.proofs.Common.{All, Contains, Option, Some, None, Ok, refl, sym, ap, subst, arith, append-nil}
+use Rattle.std.proofs.Common.{[], ◌++◌, ◌≡◌, ◌∙◌, ◌≤◌, ◌+◌, ℕ, Bool, true, false, if◌then◌else◌, List, length, map}
+use Rattle.std.proofs.Common.{All, Some, None, Ok, refl, sym, ap, subst, arith, append-nil}
 use Rattle.std.specs.Prelude.{nat_le}
 use Rattle.std.specs.List.{IsDistinct}
 use Rattle.std.specs.Str.{bytes_eq}
 use Rattle.std.proofs.lemmas.Bool.{leb-true}
 use Rattle.std.proofs.lemmas.Cmp.{nat_list_eq_equiv}
-use Rattle.std.proofs.lemmas.List.Elements.{All-contains, All-map, All-nil}
+use Rattle.std.proofs.lemmas.List.Elements.{All-map, All-nil}
 use Rattle.std.proofs.lemmas.List.{length-map}
 use Rattle.std.proofs.lemmas.Map.Made.{length-le_from_is_member}
 use Rattle.gname.specs.Ids.{IsIdOf}
@@ -25,12 +25,11 @@ use Rattle.gdag.specs.Laws.{DistinctAreOnce, OffersAreExact, PositionsAreNodes}
 use Rattle.gdag.specs.Levels.{distinct_of}
 use Rattle.grefs.specs.Refspecs.{Refspec}
 use Rattle.glsreply.specs.LsReplies.{LsReply}
-use Rattle.glsreply.specs.RefTexts.{RefLine}
 use Rattle.glsreply.specs.WellFormed.{IsRefLine}
 use Rattle.gfetchreply.specs.FetchHeads.{acknowledged_by}
 use Rattle.gfetchreply.specs.FetchReplies.{FetchReply, Says}
 use Rattle.grequest.specs.Asked.{Asked, Empty, Ls, Fetches, FetchAsked, LsRefsAsked, is_direct, max_haves}
-use Rattle.grequest.specs.Asked.{max_prefixes, max_wants}
+use Rattle.grequest.specs.Asked.{max_wants}
 use Rattle.grequest.specs.WellFormed.{IsAgent, IsAsked, IsLsRefsAsked}
 use Rattle.gclientrepo.specs.Repos.{RepoState}
 use Rattle.gsession.proofs.AskLemmas.{asked_have_ids}
@@ -39,11 +38,11 @@ use Rattle.gsession.proofs.CommonLemmas.{all_distinct, offer_fits, want_ids}
 use Rattle.gsession.proofs.ReplyLemmas.{are_commons}
 use Rattle.gsession.proofs.SessionLemmas.{acks_taken, objects_asked, open_fetch, pack_taken, refs_taken}
 use Rattle.gsession.specs.Asking.{asked_of}
-use Rattle.gsession.specs.Requesting.{IsBatch, MakesNext, Requests, batch_size, fetch_request, ls_request, waiting_for}
+use Rattle.gsession.specs.Requesting.{IsBatch, Requests, batch_size, fetch_request, ls_request, waiting_for}
 use Rattle.gsession.specs.Sessions.{IsSession, SessionState, max_specs, over}
-use Rattle.gsession.specs.TakingRefs.{AwaitsRefs, TakesLines, stage_for, with_refs}
-use Rattle.gsession.specs.TakingReplies.{Awaits, HasPack, TakesRead, after_acks, reading_for}
-use Rattle.gsession.specs.declared.stage.Stage.TheVariants.{Fetching, Listing, Over, Settling}
+use Rattle.gsession.specs.TakingRefs.{AwaitsRefs, TakesLines, stage_for}
+use Rattle.gsession.specs.TakingReplies.{Awaits, HasPack, TakesRead, reading_for}
+use Rattle.gsession.specs.declared.stage.Stage.TheVariants.{Fetching, Listing, Over}
 use Rattle.gsession.specs.declared.taken.LsTaken.{LsTaken}
 use Rattle.gsession.specs.declared.taken.Taken.{Taken}
 use Rattle.gsession.specs.declared.taken.Taken.TheVariants.{PackTaken, Round}

@@ -1,5 +1,5 @@
 -- The text of a server's error packet is short, so the packet can be written.
-use Rattle.std.proofs.Common.{[], ◌∷◌, ◌++◌, ◌≡◌, ◌∙◌, ◌≤◌, ℕ, List, length, codes, All, Option, Some}
+use Rattle.std.proofs.Common.{◌∷◌, ◌++◌, ◌≡◌, ◌∙◌, ◌≤◌, ℕ, List, length, codes, All, Some}
 use Rattle.std.proofs.Common.{sym, subst, arith, length-append}
 use Rattle.std.proofs.lemmas.List.Elements.{All-contains, Contains-append_right}
 use Rattle.gname.specs.Ids.{IsIdOf, id_text}
@@ -55,8 +55,12 @@ text_is_short : (fault : ServeFault) → length (detail_of fault) ≤ 65 → len
 unfolding err_text
 text_is_short fault few =
     let phrase = (serve_fault_row fault).phrase in
-    omega (arith, phrase_is_short fault, length-append (codes "upload-pack: ") (phrase ++ detail_of fault),
-    length-append phrase (detail_of fault))
+    omega (
+      arith,
+      phrase_is_short fault,
+      length-append (codes "upload-pack: ") (phrase ++ detail_of fault),
+      length-append phrase (detail_of fault),
+    )
 
 absent_formed : {A : Type 0} (g : List (Entry A)) (format : Format) (ids : List (List ℕ)) (id : List ℕ)
     → All (IsIdOf format) ids → IsFirstAbsent g ids id → IsIdOf format id

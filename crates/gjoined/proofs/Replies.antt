@@ -1,20 +1,18 @@
 -- The replies that a client reads are those that the server wrote. They arrive complete.
-use Rattle.std.proofs.Common.{[], ◌∷◌, ◌++◌, ◌≡◌, ◌∙◌, ◌≤◌, ℕ, List, length, Option, Some, Ok, inl, inr, refl, sym, ap, subst}
+use Rattle.std.proofs.Common.{[], ◌++◌, ◌≡◌, ◌∙◌, ◌≤◌, ℕ, List, length, Some, inl, inr, refl, sym, ap, subst}
 use Rattle.std.proofs.Common.{All, arith, append-nil}
 use Rattle.gname.specs.Limits.{max_pack}
 use Rattle.gname.specs.declared.formats.Format.{Format}
 use Rattle.gpkt.specs.Laws.{HasFourBytes}
 use Rattle.gpkt.specs.Packets.{Packet, SpellsAll}
-use Rattle.ggrammar.specs.Kinds.{ReadsMessage}
 use Rattle.ggrammar.specs.Limits.{profile}
 use Rattle.ggrammar.specs.MessageBytes.{ReadsNoOther, known_bytes}
 use Rattle.ggrammar.specs.declared.ends.Ends.{Ends}
 use Rattle.ggrammar.specs.declared.ends.Ends.TheVariants.{Plain}
-use Rattle.gobject.specs.Packs.{IndexFails, Indexes, Packs}
+use Rattle.gobject.specs.Packs.{Packs}
 use Rattle.gobject.specs.declared.node.Entry.{Entry}
 use Rattle.grefs.specs.Refspecs.{Refspec}
-use Rattle.grefs.specs.RefLists.{RefList}
-use Rattle.grequest.specs.Asked.{Asked, Empty, Ls, Fetches, FetchAsked, LsRefsAsked, is_direct, max_haves}
+use Rattle.grequest.specs.Asked.{Asked, Empty, Ls, Fetches, FetchAsked, LsRefsAsked, max_haves}
 use Rattle.grequest.specs.WellFormed.{IsAsked}
 use Rattle.glsreply.specs.LsReplies as refs
 use Rattle.glsreply.specs.LsReplies.{LsReply}
@@ -25,7 +23,7 @@ use Rattle.gfetchreply.specs.FetchReplies.{FetchReply, Reading, Acks, Ready, Pac
 use Rattle.gfetchreply.specs.WellFormed.{IsReplyIn}
 use Rattle.gclientrepo.specs.Repos.{RepoState}
 use Rattle.ganswer.specs.Answers.{Answers, Reply, Ls as Refs, Fetch as Objects}
-use Rattle.ganswer.specs.FetchAnswers.{FetchAnswer, RepliesWith}
+use Rattle.ganswer.specs.FetchAnswers.{RepliesWith}
 use Rattle.ganswer.specs.Laws.{FetchAnswersFit, LsAnswersFit}
 use Rattle.ganswer.specs.Servers.{IsServer, Server}
 use Rattle.gsession.specs.Sessions.{SessionState}

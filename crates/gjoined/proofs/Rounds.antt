@@ -1,16 +1,16 @@
 -- Each round of the client and the server is three steps of a world, and the end of the fetch is the step `Settle`.
-use Rattle.std.proofs.Common.{[], ◌∷◌, ◌++◌, ◌≡◌, ◌∙◌, ◌↔◌, ◌+◌, ◌≤◌, ℕ, Bool, true, false, IsTrue, List, length, map, take}
-use Rattle.std.proofs.Common.{All, Option, Some, None, Ok, refl, sym, ap, subst, arith, append_assoc, append-nil}
+use Rattle.std.proofs.Common.{[], ◌∷◌, ◌++◌, ◌≡◌, ◌∙◌, ◌↔◌, ◌+◌, ℕ, Bool, true, false, IsTrue, List, length, map, take}
+use Rattle.std.proofs.Common.{All, Option, Some, Ok, refl, sym, ap, subst, arith, append_assoc, append-nil}
 use Rattle.std.proofs.Common.{length-append, slice_get}
 use Rattle.std.specs.List.{flat_map}
 use Rattle.std.proofs.lemmas.Bool.{false≢true}
 use Rattle.std.proofs.lemmas.List.{take_all}
 use Rattle.std.proofs.lemmas.List.Elements.{All-cons, All-head, All-nil, All-tail}
 use Rattle.gpkt.specs.Laws.{CanonicalJoins, SpellingsSplit}
-use Rattle.gpkt.specs.Packets.{Bytes, Packet, SpellsAll, canonical_all}
+use Rattle.gpkt.specs.Packets.{Packet, SpellsAll, canonical_all}
 use Rattle.ggrammar.specs.Limits.{profile}
 use Rattle.ggrammar.specs.declared.ends.Ends.TheVariants.{Plain}
-use Rattle.grefs.specs.RefLists.{IsRefs, RefList}
+use Rattle.grefs.specs.RefLists.{IsRefs}
 use Rattle.grefs.specs.Refspecs.{Refspec}
 use Rattle.grequest.specs.Asked.{Asked}
 use Rattle.grequest.specs.WellFormed.{IsAsked}
@@ -20,7 +20,6 @@ use Rattle.gclientrepo.specs.declared.ask.RefUpdate.{RefUpdate}
 use Rattle.ganswer.specs.Answers.{Answers, Reply}
 use Rattle.ganswer.specs.Servers.{IsServer, Server}
 use Rattle.gserve.specs.Exchanges.{IsTurn as IsExchange, Turn as Exchange, reply_packets}
-use Rattle.gsession.specs.Requesting.{Requests}
 use Rattle.gsession.specs.Sessions.{IsSession, SessionState, over}
 use Rattle.gsession.specs.declared.stage.Stage.TheVariants.{Settling}
 use Rattle.gfetch.specs.Conversations.{request_bytes, requests_bytes}

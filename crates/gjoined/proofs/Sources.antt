@@ -1,6 +1,6 @@
 -- The source of a valid refspec is a prefix of ref names, so it can stand in a request.
-use Rattle.std.proofs.Common.{◌++◌, ◌≡◌, ◌≤◌, ℕ, Bool, true, false, cond, if◌then◌else◌, List, length, All, Option, Some}
-use Rattle.std.proofs.Common.{None, codes, position, refl, ap, arith, length-append}
+use Rattle.std.proofs.Common.{◌++◌, ◌≡◌, ◌≤◌, ℕ, Bool, true, false, cond, if◌then◌else◌, List, length, All, Some}
+use Rattle.std.proofs.Common.{None, codes, refl, ap, arith, length-append}
 use Rattle.std.specs.List.{position_or_len}
 use Rattle.std.specs.Option.{option_map}
 use Rattle.std.proofs.lemmas.Bool.{le-ltb}

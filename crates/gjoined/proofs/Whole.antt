@@ -1,5 +1,5 @@
 -- A whole fetch over two connected ends is a run of a world.
-use Rattle.std.proofs.Common.{[], ◌∷◌, ◌++◌, ◌≡◌, ◌⊎◌, ◌∙◌, ◌≤◌, ℕ, false, List, length, All, Option, Some, None, Ok, Vec}
+use Rattle.std.proofs.Common.{[], ◌∷◌, ◌++◌, ◌≡◌, ◌⊎◌, ◌∙◌, ◌≤◌, ℕ, false, List, length, All, Option, Some, None, Vec}
 use Rattle.std.proofs.Common.{inl, inr, refl, sym, ap, subst, append-nil, append_assoc}
 use Rattle.std.specs.Io.KnownBytes.{Appends}
 use Rattle.std.specs.List.{flat_map}
@@ -10,7 +10,7 @@ use Rattle.std.proofs.lemmas.List.Elements.{All-nil, All-push}
 use Rattle.gname.specs.declared.formats.Format.{Format}
 use Rattle.gname.specs.declared.formats.Format.TheVariants.{Sha1, Sha256}
 use Rattle.gpkt.specs.Laws.{HasFourBytes, SpellingsJoin}
-use Rattle.gpkt.specs.Packets.{Bytes, Packet, SpellsAll, canonical_all}
+use Rattle.gpkt.specs.Packets.{Packet, SpellsAll, canonical_all}
 use Rattle.gpkt.specs.Sending.{Input, Output, Passes, rest_of}
 use Rattle.ggrammar.specs.Capabilities.{Capability}
 use Rattle.ggrammar.specs.Kinds.{CanonicalSays}
@@ -21,7 +21,7 @@ use Rattle.ghello.specs.Offers.{check_fault}
 use Rattle.gfetchreply.specs.Values.{default_limit}
 use Rattle.gdag.specs.Graphs.{IsGraph}
 use Rattle.grefs.specs.RefLists.{IsRefs}
-use Rattle.grefs.specs.Refspecs.{IsRefspec, Refspec}
+use Rattle.grefs.specs.Refspecs.{Refspec}
 use Rattle.grequest.specs.Asked.{Asked, Empty}
 use Rattle.gclientrepo.specs.Repos.{IsConnectedRepo, RepoState}
 use Rattle.gclientrepo.specs.declared.ask.RefUpdate.{RefUpdate}
@@ -38,13 +38,13 @@ use Rattle.gsession.proofs.CommonLemmas.{tip_ids}
 use Rattle.gsession.proofs.SessionLemmas.{begun}
 use Rattle.gsession.specs.Sessions.{IsSession, SessionState, max_specs, new_session, tells_unborn, tips_of}
 use Rattle.gfetch.specs.Conversations.{HasFetched, request_bytes, requests_bytes}
-use Rattle.gfetch.specs.Starts.{Start, hear_advert, start_of}
+use Rattle.gfetch.specs.Starts.{hear_advert, start_of}
 use Rattle.gfetch.specs.declared.fetched.Fetched.{Fetched}
 use Rattle.gscenario.specs.declared.event.Event.{Event}
 use Rattle.gscenario.specs.declared.event.Event.TheVariants as event
 use Rattle.gworld.specs.Events.{Step}
 use Rattle.gworld.specs.Laws.{NewWorldsAreSound, RunsKeepPromises, StepsListed}
-use Rattle.gworld.specs.Runs.{Run, RunWith}
+use Rattle.gworld.specs.Runs.{RunWith}
 use Rattle.gworld.specs.Sound.{AreEndsConnected}
 use Rattle.gworld.specs.Worlds.{Kept, PackTools, WorldState, new_world, reply_bytes}
 use Rattle.gworld.specs.declared.outcome.Outcome.{Outcome}
@@ -55,8 +55,8 @@ use Rattle.gjoined.proofs.Bytes.{one_front, read_from}
 use Rattle.gjoined.proofs.Errors.{ErrorLaws, error_bytes, no_advert}
 use Rattle.gjoined.proofs.Plain.{IsPlain}
 use Rattle.gjoined.proofs.Refusals.{IdLaws, begun_short, refused_short}
-use Rattle.gjoined.proofs.Replies.{NoReply, no_bytes, no_error}
-use Rattle.gjoined.proofs.Rounds.{GoesOn, IsEnd, NoReplyAfter, RoundLaws, goes_on, replies_read, replies_written, requests_read, stepped}
+use Rattle.gjoined.proofs.Replies.{no_bytes, no_error}
+use Rattle.gjoined.proofs.Rounds.{GoesOn, NoReplyAfter, RoundLaws, goes_on, replies_read, replies_written, requests_read, stepped}
 use Rattle.gjoined.proofs.Rounds.{world_at}
 use Rattle.gjoined.proofs.Sources.{AreSources, sources}
 

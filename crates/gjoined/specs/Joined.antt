@@ -8,7 +8,7 @@ use Rattle.ggrammar.specs.declared.ends.Ends.TheVariants.{Plain}
 use Rattle.gfetchreply.specs.Values.{default_limit}
 use Rattle.grefs.specs.RefLists.{IsRefs}
 use Rattle.grefs.specs.Refspecs.{IsRefspec, Refspec}
-use Rattle.grequest.specs.Asked.{Asked, Empty}
+use Rattle.grequest.specs.Asked.{Empty}
 use Rattle.gclientrepo.specs.Repos.{RepoState}
 use Rattle.gclientrepo.specs.declared.ask.RefUpdate.{RefUpdate}
 use Rattle.ganswer.specs.Servers.{Server}
