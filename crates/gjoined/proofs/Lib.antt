@@ -5,5 +5,6 @@ pub mod Refusals
 pub mod Replies
 pub mod Requests
 pub mod Rounds
+pub mod Serving
 pub mod Sources
 pub mod Whole

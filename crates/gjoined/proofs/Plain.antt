@@ -230,6 +230,20 @@ module _ {A : Type 0} where
 
   -- ---- the end of the session
 
+  -- a session that is over is valid
+  pub over_session : (s : SessionState A) → IsSession s → IsSession (over s)
+  over_session s is = record {
+    few_specs = is.few_specs;
+    tips = is.tips;
+    wants = is.wants;
+    few_wants = is.few_wants;
+    commons = is.commons;
+    sent = is.sent;
+    rounds = is.rounds;
+    some = λ fetching. absurd (over_fetches fetching);
+    stage = tt;
+  }
+
   -- a session that has settled is valid
   pub settled_session : (s : SessionState A) → IsSession s → IsSession (record (over s) { asks = [] })
   settled_session s is = record {

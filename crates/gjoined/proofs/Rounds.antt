@@ -1,6 +1,6 @@
 -- Each round of the client and the server is three steps of a world, and the end of the fetch is the step `Settle`.
 use Rattle.std.proofs.Common.{[], ◌∷◌, ◌++◌, ◌≡◌, ◌∙◌, ◌↔◌, ◌+◌, ℕ, Bool, true, false, IsTrue, List, length, map, take}
-use Rattle.std.proofs.Common.{All, Option, Some, Ok, refl, sym, ap, subst, arith, append_assoc, append-nil}
+use Rattle.std.proofs.Common.{All, Option, Some, Ok, Err, refl, sym, ap, subst, arith, append_assoc, append-nil}
 use Rattle.std.proofs.Common.{length-append, slice_get}
 use Rattle.std.specs.List.{flat_map}
 use Rattle.std.proofs.lemmas.Bool.{false≢true}
@@ -17,10 +17,12 @@ use Rattle.grequest.specs.WellFormed.{IsAsked}
 use Rattle.gclientrepo.specs.Changes.{SettlesAsks}
 use Rattle.gclientrepo.specs.Repos.{RepoState}
 use Rattle.gclientrepo.specs.declared.ask.RefUpdate.{RefUpdate}
+use Rattle.gclientrepo.specs.declared.fault.RepoFault.{RepoFault}
 use Rattle.ganswer.specs.Answers.{Answers, Reply}
 use Rattle.ganswer.specs.Servers.{IsServer, Server}
 use Rattle.gserve.specs.Exchanges.{IsTurn as IsExchange, Turn as Exchange, reply_packets}
 use Rattle.gsession.specs.Sessions.{IsSession, SessionState, over}
+use Rattle.gsession.specs.declared.fault.ClientFault.TheVariants.{Repo}
 use Rattle.gsession.specs.declared.stage.Stage.TheVariants.{Settling}
 use Rattle.gfetch.specs.Conversations.{request_bytes, requests_bytes}
 use Rattle.gfetch.specs.Turns.{AreTurns, ClientState, IsTurn, Turn}
@@ -31,12 +33,12 @@ use Rattle.gworld.specs.Fetching.{IsDone}
 use Rattle.gworld.specs.Laws.{AreListed, EndsStayConnected, StepsListed}
 use Rattle.gworld.specs.Runs.{RunWith}
 use Rattle.gworld.specs.Sound.{AreEndsConnected}
-use Rattle.gworld.specs.Taking.{IsFullAnswer, IsPackTaken, TakesBytes}
+use Rattle.gworld.specs.Taking.{IsFullAnswer, IsPackTaken, TakesBytes, code_of}
 use Rattle.gworld.specs.Worlds.{Kept, PackTools, WorldState, reply_bytes}
 use Rattle.gworld.specs.declared.outcome.Outcome.{Outcome}
 use Rattle.gworld.specs.declared.outcome.Outcome.TheVariants as outcomes
 use Rattle.gjoined.specs.Joined.{events_from, outcomes_from}
-use Rattle.gjoined.proofs.Plain.{HasAsked, IsPlain, asks_well, settled_session}
+use Rattle.gjoined.proofs.Plain.{HasAsked, IsPlain, asks_well, over_session, settled_session}
 use Rattle.gjoined.proofs.Replies.{IsTaken, NoReply, ReplyLaws, takes_reply}
 use Rattle.gjoined.proofs.Requests.{RequestLaws, one_request}
 use Rattle.gjoined.proofs.Sources.{AreSources}
@@ -128,13 +130,13 @@ NoReplyAfter server tools left tail =
     (asked : Asked) (more : List ℕ) → IsAsked profile server.graph.format asked
     → left ≡ request_bytes server.graph.format asked ++ more → NoReply tools tail
 
--- the rest of a fetch, from the beginning of round `n`
-pub record GoesOn {A : Type 0} (tools : PackTools A) (server : Server A) (w : WorldState A) (n : ℕ) (asked answered rest : List ℕ)
-    (new : RepoState A) (updates : List RefUpdate) : Type 0 where
+-- the rest of a fetch, from the beginning of round `n`, with the events `late` behind the rounds
+pub record GoesOn {A : Type 0} (tools : PackTools A) (server : Server A) (w : WorldState A) (n : ℕ)
+    (asked answered rest : List ℕ) (new : RepoState A) (late : List (Event A)) (told : List Outcome) : Type 0 where
   pub more : List Kept
   pub taken : List Outcome
   pub last : WorldState A
-  pub run : RunWith (StepsListed tools) w (events_from n more) (outcomes_from n taken updates) last
+  pub run : RunWith (StepsListed tools) w (events_from n more late) (outcomes_from n taken told) last
   pub done : All IsDone taken
   pub repo_after : last.repo ≡ new
   pub server_after : last.server ≡ server
@@ -143,11 +145,24 @@ pub record GoesOn {A : Type 0} (tools : PackTools A) (server : Server A) (w : Wo
   pub wrote : asked ≡ flat_map (λ one. request_bytes server.graph.format one) (map (λ one. one.asked) more)
   pub read : answered ≡ flat_map (λ one. reply_bytes one.reply) more ++ rest
 
--- the end of a fetch
-pub record IsEnd {A : Type 0} (last : ClientState A) (new : RepoState A) (updates : List RefUpdate) : Type 0 where
-  pub stage : last.session.stage ≡ Settling
-  pub settles : SettlesAsks last.repo last.session.asks new (Ok updates)
-  pub refs_after : IsRefs new.refs
+-- a run of the last events, which leave the server and all messages unchanged
+pub record IsLate {A : Type 0} (tools : PackTools A) (w : WorldState A) (new : RepoState A) (late : List (Event A))
+    (told : List Outcome) : Type 0 where
+  pub last : WorldState A
+  pub run : RunWith (StepsListed tools) w late told last
+  pub repo_after : last.repo ≡ new
+  pub server_after : last.server ≡ w.server
+  pub replies : last.kept ≡ w.kept
+  pub requests : last.sent ≡ w.sent
+
+-- the last events of a fetch, from each world in which the client has its last session and its last repository
+abbrev pub IsEnd : {A : Type 0} → PackTools A → Server A → List Refspec → ClientState A → RepoState A → List (Event A)
+    → List Outcome → Type 0
+IsEnd tools server specs last new late told =
+    (sent : List Asked) (kept : List Kept) (mark : Bool)
+    → AreEndsConnected (world_at server last.session last.repo sent kept mark)
+    → IsPlain server.graph.format specs last.session
+    → IsLate tools (world_at server last.session last.repo sent kept mark) new late told
 
 module _ {A : Type 0} (tools : PackTools A) (server : Server A) where
   listed : (repo : RepoState A) (session : SessionState A) (sent : List Asked)
@@ -256,49 +271,93 @@ module _ {A : Type 0} (tools : PackTools A) (server : Server A) where
 
     -- ---- all rounds, and the end
 
-    ends_well : (first : ClientState A) (sent : List Asked) (kept : List Kept) (mark : Bool) (n : ℕ)
-        (answered rest : List ℕ) (new : RepoState A) (updates : List RefUpdate)
-        → AreEndsConnected (world_at server first.session first.repo sent kept mark)
-        → IsPlain server.graph.format specs first.session → IsEnd first new updates → answered ≡ rest
-        → GoesOn tools server (world_at server first.session first.repo sent kept mark) n [] answered rest new updates
-    ends_well first sent kept mark n answered rest new updates ends plain is_end left =
-        let s = first.session in
+    -- `Settle` updates the refs
+    pub settles : (last : ClientState A) (new : RepoState A) (updates : List RefUpdate)
+        → last.session.stage ≡ Settling → SettlesAsks last.repo last.session.asks new (Ok updates) → IsRefs new.refs
+        → IsEnd tools server specs last new (event.Settle ∷ []) (settled_outcome updates ∷ [])
+    settles last new updates stage asks refs sent kept mark ends plain =
+        let s = last.session in
         let after = record (over s) { asks = [] } in
-        let w = world_at server s first.repo sent kept mark in
-        let step = stepped w event.Settle (settled_outcome updates) after new sent kept false ends is_end.refs_after
+        let w = world_at server s last.repo sent kept mark in
+        let step = stepped w event.Settle (settled_outcome updates) after new sent kept false ends refs
         (settled_session s plain.session)
-        (after, new, s.asks, updates, (is_end.stage, refl, refl, is_end.settles), refl, refl) in record {
-          more = [];
-          taken = [];
+        (after, new, s.asks, updates, (stage, refl, refl, asks), refl, refl) in record {
           last = world_at server after new sent kept false;
           run = (world_at server after new sent kept false, step.0, refl);
-          done = All-nil IsDone;
           repo_after = refl;
           server_after = refl;
-          replies = sym (append-nil kept);
-          requests = sym (append-nil sent);
+          replies = refl;
+          requests = refl;
+        }
+
+    -- `Settle` fails
+    pub settles_none : (last : ClientState A) (new : RepoState A) (cause : RepoFault A)
+        → last.session.stage ≡ Settling → SettlesAsks last.repo last.session.asks new (Err cause) → IsRefs new.refs
+        → IsEnd tools server specs last new (event.Settle ∷ []) (outcomes.Fault (code_of (Repo cause)) ∷ [])
+    settles_none last new cause stage asks refs sent kept mark ends plain =
+        let s = last.session in
+        let w = world_at server s last.repo sent kept mark in
+        let step = stepped w event.Settle (outcomes.Fault (code_of (Repo cause))) (over s) new sent kept false ends refs
+        (over_session s plain.session)
+        (over s, new, Repo cause, (stage, refl, asks), refl, refl) in record {
+          last = world_at server (over s) new sent kept false;
+          run = (world_at server (over s) new sent kept false, step.0, refl);
+          repo_after = refl;
+          server_after = refl;
+          replies = refl;
+          requests = refl;
+        }
+
+    -- the fetch ends after its rounds
+    pub stops : (last : ClientState A) (new : RepoState A) → new ≡ last.repo → IsEnd tools server specs last new [] []
+    stops last new same sent kept mark ends plain = record {
+      last = world_at server last.session last.repo sent kept mark;
+      run = refl;
+      repo_after = sym same;
+      server_after = refl;
+      replies = refl;
+      requests = refl;
+    }
+
+    ends_well : (first : ClientState A) (sent : List Asked) (kept : List Kept) (mark : Bool) (n : ℕ)
+        (answered rest : List ℕ) (new : RepoState A) (late : List (Event A)) (told : List Outcome)
+        → AreEndsConnected (world_at server first.session first.repo sent kept mark)
+        → IsPlain server.graph.format specs first.session → IsEnd tools server specs first new late told
+        → answered ≡ rest
+        → GoesOn tools server (world_at server first.session first.repo sent kept mark) n [] answered rest new late told
+    ends_well first sent kept mark n answered rest new late told ends plain is_end left =
+        let end = is_end sent kept mark ends plain in record {
+          more = [];
+          taken = [];
+          last = end.last;
+          run = end.run;
+          done = All-nil IsDone;
+          repo_after = end.repo_after;
+          server_after = end.server_after;
+          replies = end.replies ∙ sym (append-nil kept);
+          requests = end.requests ∙ sym (append-nil sent);
           wrote = refl;
           read = left;
         }
 
     pub goes_on : (turns : List Turn) (served : List Exchange) (first last : ClientState A)
         (sent : List Asked) (kept : List Kept) (mark : Bool) (n : ℕ) (asks left more answers rest tail : List ℕ)
-        (new : RepoState A) (updates : List RefUpdate) → n ≡ length sent → n ≡ length kept
+        (new : RepoState A) (late : List (Event A)) (told : List Outcome) → n ≡ length sent → n ≡ length kept
         → AreEndsConnected (world_at server first.session first.repo sent kept mark)
         → IsPlain server.graph.format specs first.session
         → AreTurns tools.indexes tools.index_fails first turns last → All (IsExchange server tools.packs) served
         → SpellsAll (requests_read served) asks
         → asks ++ left ≡ requests_bytes server.graph.format turns ++ more
         → SpellsAll (replies_read turns) answers → answers ++ rest ≡ canonical_all (replies_written served) ++ tail
-        → NoReplyAfter server tools left tail → IsEnd last new updates
+        → NoReplyAfter server tools left tail → IsEnd tools server specs last new late told
         → GoesOn tools server (world_at server first.session first.repo sent kept mark) n (requests_bytes server.graph.format turns)
-        (canonical_all (replies_written served) ++ tail) rest new updates
-    goes_on [] served first last sent kept mark n asks left more answers rest tail new updates count also ends plain
+        (canonical_all (replies_written served) ++ tail) rest new late told
+    goes_on [] served first last sent kept mark n asks left more answers rest tail new late told count also ends plain
         turns serves asked_spelt asked_same read_spelt read_same none is_end =
-        ends_well first sent kept mark n (canonical_all (replies_written served) ++ tail) rest new updates ends plain
-        (subst (λ (c : ClientState A). IsEnd c new updates) turns is_end)
+        ends_well first sent kept mark n (canonical_all (replies_written served) ++ tail) rest new late told ends plain
+        (subst (λ (c : ClientState A). IsEnd tools server specs c new late told) turns is_end)
         (sym read_same ∙ ap (λ (l : List ℕ). l ++ rest) read_spelt)
-    goes_on (turn ∷ turns) [] first last sent kept mark n asks left more answers rest tail new updates count also ends
+    goes_on (turn ∷ turns) [] first last sent kept mark n asks left more answers rest tail new late told count also ends
         plain (next, is_turn, later) serves asked_spelt asked_same read_spelt read_same none is_end =
         let parts = laws.split turn.reply (replies_read turns) answers read_spelt in
         let format = server.graph.format in
@@ -311,7 +370,7 @@ module _ {A : Type 0} (tools : PackTools A) (server : Server A) where
         absurd (none turn.asked (requests_bytes format turns ++ more) asked.well remain
         is_turn.waiting turn.asked first next turn.reply parts.0 (parts.1 ++ rest) is_turn.takes parts.3
         (sym (append_assoc parts.0 parts.1 rest) ∙ ap (λ (l : List ℕ). l ++ rest) (sym parts.2) ∙ read_same))
-    goes_on (turn ∷ turns) (serve ∷ served) first last sent kept mark n asks left more answers rest tail new updates
+    goes_on (turn ∷ turns) (serve ∷ served) first last sent kept mark n asks left more answers rest tail new late told
         count also ends plain (next, is_turn, later) serves asked_spelt asked_same read_spelt read_same none is_end =
         let format = server.graph.format in
         let one : Kept = record { asked = turn.asked; reply = serve.answer } in
@@ -332,7 +391,7 @@ module _ {A : Type 0} (tools : PackTools A) (server : Server A) where
         (sym (append_assoc theirs.0 theirs.1 rest) ∙ ap (λ (l : List ℕ). l ++ rest) (sym theirs.2) ∙ read_same
         ∙ written) in
         let then = goes_on turns served next last (sent ++ turn.asked ∷ []) (kept ++ one ∷ []) (is_pack here.outcome)
-        (n + 1) mine.1 left more theirs.1 rest tail new updates (one_more sent turn.asked n count)
+        (n + 1) mine.1 left more theirs.1 rest tail new late told (one_more sent turn.asked n count)
         (one_more kept one n also) here.ends here.plain later
         (All-tail (IsExchange server tools.packs) serve served serves) mine.4 here.asked_left theirs.4
         here.answered_left none is_end in record {

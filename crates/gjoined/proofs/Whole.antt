@@ -1,20 +1,16 @@
 -- A whole fetch over two connected ends is a run of a world.
-use Rattle.std.proofs.Common.{[], ◌∷◌, ◌++◌, ◌≡◌, ◌⊎◌, ◌∙◌, ◌≤◌, ℕ, false, List, length, All, Option, Some, None, Vec}
-use Rattle.std.proofs.Common.{inl, inr, refl, sym, ap, subst, append-nil, append_assoc}
+use Rattle.std.proofs.Common.{[], ◌∷◌, ◌++◌, ◌≡◌, ◌⊎◌, ◌∙◌, ◌≤◌, ◌+◌, ℕ, false, List, length, map, All, Option, Some, None, Vec}
+use Rattle.std.proofs.Common.{Result, Ok, Err, inl, inr, refl, sym, ap, subst, append-nil, append_assoc}
 use Rattle.std.specs.Io.KnownBytes.{Appends}
 use Rattle.std.specs.List.{flat_map}
 use Rattle.std.specs.Map.{values_of}
-use Rattle.std.proofs.lemmas.Grind.{flat_map-append}
-use Rattle.std.proofs.lemmas.List.{append_cancel_left, append_cancel_right}
-use Rattle.std.proofs.lemmas.List.Elements.{All-nil, All-push}
+use Rattle.std.proofs.lemmas.List.{append_cancel_right}
+use Rattle.std.proofs.lemmas.List.Elements.{All-cons, All-nil}
 use Rattle.gname.specs.declared.formats.Format.{Format}
 use Rattle.gname.specs.declared.formats.Format.TheVariants.{Sha1, Sha256}
-use Rattle.gpkt.specs.Laws.{HasFourBytes, SpellingsJoin}
 use Rattle.gpkt.specs.Packets.{Packet, SpellsAll, canonical_all}
-use Rattle.gpkt.specs.Sending.{Input, Output, Passes, rest_of}
+use Rattle.gpkt.specs.Sending.{Input, Output}
 use Rattle.ggrammar.specs.Capabilities.{Capability}
-use Rattle.ggrammar.specs.Kinds.{CanonicalSays}
-use Rattle.ggrammar.specs.MessageBytes.{ReadsNoOther}
 use Rattle.ggrammar.specs.declared.ends.Ends.TheVariants.{Plain}
 use Rattle.ghello.specs.Adverts as advert
 use Rattle.ghello.specs.Offers.{check_fault}
@@ -24,65 +20,40 @@ use Rattle.grefs.specs.RefLists.{IsRefs}
 use Rattle.grefs.specs.Refspecs.{Refspec}
 use Rattle.grequest.specs.Asked.{Asked, Empty}
 use Rattle.gclientrepo.specs.Repos.{IsConnectedRepo, RepoState}
-use Rattle.gclientrepo.specs.declared.ask.RefUpdate.{RefUpdate}
 use Rattle.ganswer.specs.Adverts.{advertisement}
-use Rattle.ganswer.specs.Laws.{AdvertsWelcome}
 use Rattle.ganswer.specs.Servers.{Server}
-use Rattle.ganswer.specs.declared.fault.ServeFault.{ServeFault}
-use Rattle.gserve.specs.Conversations.{CannotBegin, Converses, HasEnded, IsDueFirst, Serves, advert as first_advert, advert_packets, refusal as first_refusal, talk, talk_bytes}
-use Rattle.gserve.specs.Exchanges.{IsDue, IsRefused, IsTurn as IsExchange, ReadsEmpty, ReadsTurn, ReadsTurns, Turn as Exchange, refusal, reply, reply_packets}
-use Rattle.gserve.specs.Refusals.{err_packets, err_text}
-use Rattle.gserve.specs.declared.connection.End.{End}
-use Rattle.gserve.specs.declared.connection.End.TheVariants as end
+use Rattle.gserve.specs.Conversations.{advert_packets}
 use Rattle.gsession.proofs.CommonLemmas.{tip_ids}
 use Rattle.gsession.proofs.SessionLemmas.{begun}
 use Rattle.gsession.specs.Sessions.{IsSession, SessionState, max_specs, new_session, tells_unborn, tips_of}
-use Rattle.gfetch.specs.Conversations.{HasFetched, request_bytes, requests_bytes}
-use Rattle.gfetch.specs.Starts.{hear_advert, start_of}
+use Rattle.gsession.specs.declared.fault.ClientFault.TheVariants as client
+use Rattle.gfetch.specs.Conversations.{Converses, Fails, FailsToAsk, FetchesOver, HasAsked, HasFetched, IsLeft, cannot_ask}
+use Rattle.gfetch.specs.Conversations.{cannot_begin, cannot_hear, cannot_send, cannot_settle, cannot_take, no_buffer}
+use Rattle.gfetch.specs.Conversations.{request_bytes, requests_bytes}
+use Rattle.gfetch.specs.Starts.{Start, hear_advert, start_of}
+use Rattle.gfetch.specs.Turns.{ClientState, Refuses, Turn}
+use Rattle.gfetch.specs.declared.fault.FetchFault.{FetchFault}
 use Rattle.gfetch.specs.declared.fetched.Fetched.{Fetched}
 use Rattle.gscenario.specs.declared.event.Event.{Event}
 use Rattle.gscenario.specs.declared.event.Event.TheVariants as event
-use Rattle.gworld.specs.Events.{Step}
-use Rattle.gworld.specs.Laws.{NewWorldsAreSound, RunsKeepPromises, StepsListed}
-use Rattle.gworld.specs.Runs.{RunWith}
+use Rattle.gworld.specs.Events.{Step, settled_outcome}
+use Rattle.gworld.specs.Laws.{StepsListed}
+use Rattle.gworld.specs.Runs.{Run, RunWith}
 use Rattle.gworld.specs.Sound.{AreEndsConnected}
+use Rattle.gworld.specs.Taking.{code_of}
 use Rattle.gworld.specs.Worlds.{Kept, PackTools, WorldState, new_world, reply_bytes}
 use Rattle.gworld.specs.declared.outcome.Outcome.{Outcome}
 use Rattle.gworld.specs.declared.outcome.Outcome.TheVariants as outcomes
 use Rattle.gworld.proofs.Runs.{run_maps}
-use Rattle.gjoined.specs.Joined.{Carries, FetchesAreRuns, IsWorldRun, fetch_events, fetch_outcomes}
+use Rattle.gjoined.specs.Joined.{AnyFetchIsARun, Carries, FetchesAreRuns, IsOfFetch, IsSomeRun, IsWorldRun}
+use Rattle.gjoined.specs.Joined.{events_from, fetch_events, fetch_outcomes, outcomes_from}
 use Rattle.gjoined.proofs.Bytes.{one_front, read_from}
-use Rattle.gjoined.proofs.Errors.{ErrorLaws, error_bytes, no_advert}
+use Rattle.gjoined.proofs.Errors.{error_bytes, no_advert}
 use Rattle.gjoined.proofs.Plain.{IsPlain}
-use Rattle.gjoined.proofs.Refusals.{IdLaws, begun_short, refused_short}
-use Rattle.gjoined.proofs.Replies.{no_bytes, no_error}
-use Rattle.gjoined.proofs.Rounds.{GoesOn, NoReplyAfter, RoundLaws, goes_on, replies_read, replies_written, requests_read, stepped}
-use Rattle.gjoined.proofs.Rounds.{world_at}
+use Rattle.gjoined.proofs.Rounds.{GoesOn, IsEnd, goes_on, replies_read, replies_written, settles, settles_none}
+use Rattle.gjoined.proofs.Rounds.{stepped, stops, world_at}
+use Rattle.gjoined.proofs.Serving.{HasRefused, HasServed, JoinedLaws, carried, serves}
 use Rattle.gjoined.proofs.Sources.{AreSources, sources}
-
--- the laws of a whole fetch
-pub record JoinedLaws {A : Type 0} (tools : PackTools A) : Type 0 where
-  pub rounds : RoundLaws tools
-  pub advert_says : CanonicalSays advert.Says advert.AreCapabilities advert.IsCanonical
-  pub advert_ends : ReadsNoOther advert.judge
-  pub welcome : AdvertsWelcome
-  pub sound : NewWorldsAreSound tools
-  pub keeps : RunsKeepPromises tools
-  pub four : HasFourBytes
-  pub errors : ErrorLaws
-  pub join : SpellingsJoin
-  pub ids : IdLaws
-
--- ---- the bytes at both ends
-
--- the bytes that the other end can read are the bytes that were written
-carried : {output : Output} {input : Input} {bytes : List ℕ} → Carries output input bytes → (written : List ℕ)
-    → Appends output.written.old output.written.new written → bytes ≡ written
-carried {output} {input} {bytes} carries written wrote =
-    let appends : Appends (Some carries.before) (Some (carries.before ++ bytes)) written =
-    subst (λ (old : Option (List ℕ)). Appends old (Some (carries.before ++ bytes)) written) carries.old
-    (subst (λ (new : Option (List ℕ)). Appends output.written.old new written) carries.new wrote) in
-    append_cancel_left carries.before bytes written appends
 
 -- ---- the advertisement
 
@@ -98,38 +69,38 @@ pub record IsHeard (format : Format) (capabilities : List Capability) (rest afte
   pub same : capabilities ≡ advertisement format
   pub left : rest ≡ after
 
--- The server read requests from the bytes, and `answered` is the advertisement, its replies, and `tail`. If the server
--- failed to write, `answered` lacks the bytes `missing`. No reply comes in `tail`.
-pub record HasServed {A : Type 0} (tools : PackTools A) (server : Server A) (asked answered : List ℕ) : Type 0 where
-  pub served : List Exchange
-  pub front : List ℕ
-  pub left : List ℕ
-  pub parts : asked ≡ front ++ left
-  pub spelt : SpellsAll (requests_read served) front
-  pub each : All (IsExchange server tools.packs) served
-  pub tail : List ℕ
-  pub none : NoReplyAfter server tools left tail
-  pub missing : List ℕ
-  pub wrote : answered ++ missing
-      ≡ canonical_all (advert_packets server.graph.format) ++ (canonical_all (replies_written served) ++ tail)
-
--- the server wrote nothing but an error packet, or a prefix of it
-pub record HasRefused (answered : List ℕ) : Type 0 where
-  pub said : List ℕ
-  pub short : length said ≤ 128
-  pub missing : List ℕ
-  pub wrote : answered ++ missing ≡ error_bytes said
-
-error_written : (fault : ServeFault) → canonical_all (err_packets fault) ≡ error_bytes (err_text fault)
-unfolding err_packets
-error_written fault = refl
-
 -- the session of a plain fetch, after it read the advertisement
 abbrev pub heard_session : {A : Type 0} → RepoState A → List Refspec → List Capability → SessionState A
 heard_session {A} repo specs capabilities = record
     (new_session {A = A} repo.graph.format specs default_limit Plain (tips_of repo)) {
       offers_unborn = tells_unborn capabilities;
     }
+
+-- a call that writes nothing
+appends_same : (old : Option (List ℕ)) → Appends old old []
+appends_same None = tt
+appends_same (Some bytes) = sym (append-nil bytes)
+
+appends_none : (old new : Option (List ℕ)) → new ≡ old → Appends old new []
+appends_none old new same = subst (λ (o : Option (List ℕ)). Appends old o []) (sym same) (appends_same old)
+
+-- the rounds consist of events of a fetch
+rounds_of_fetch : {A : Type 0} (n : ℕ) (kept : List Kept) (late : List (Event A)) → All IsOfFetch late
+    → All IsOfFetch (events_from n kept late)
+rounds_of_fetch n [] late all = all
+rounds_of_fetch n (one ∷ kept) late all =
+    let deliver = event.Deliver n (length (reply_bytes one.reply)) in
+    let rest = events_from (n + 1) kept late in
+    All-cons IsOfFetch event.Ask (event.Serve n ∷ deliver ∷ rest) tt
+    (All-cons IsOfFetch (event.Serve n) (deliver ∷ rest) tt
+    (All-cons IsOfFetch deliver rest tt (rounds_of_fetch (n + 1) kept late all)))
+
+-- steps with listed ends are steps
+listed_run : {A : Type 0} (tools : PackTools A) (w v : WorldState A) (events : List (Event A)) (told : List Outcome)
+    → RunWith (StepsListed tools) w events told v → Run tools w events told v
+listed_run {A} tools w v events told run =
+    run_maps (λ (u : WorldState A). u) (StepsListed tools) (Step tools)
+    (λ (u : WorldState A) (e : Event A) (outcome : Outcome) (next : WorldState A) step. step.step) w v events told run
 
 module _ {A : Type 0} {tools : PackTools A} (laws : JoinedLaws tools) where
   heard : (format : Format) (packets : List Packet) (capabilities : List Capability) (front rest after : List ℕ)
@@ -144,190 +115,6 @@ module _ {A : Type 0} {tools : PackTools A} (laws : JoinedLaws tools) where
         same = says.says ∙ ap advert.capabilities_of one.0 ∙ sym well.0.says;
         left = one.1;
       }
-
-  talk_parts : (format : Format) (turns : List Exchange)
-      → talk_bytes format Plain turns
-      ≡ canonical_all (advert_packets format) ++ canonical_all (replies_written turns)
-  unfolding talk
-  talk_parts format turns =
-      laws.rounds.joins (advert_packets format) (flat_map (λ (turn : Exchange). reply_packets Plain turn.answer) turns)
-
-  -- ---- the server's part
-
-  -- what a server wrote behind its replies: nothing, an error packet, or a part of it
-  module _ (server : Server A) (input : Input) (output : Output) (other : Output) (back : Input)
-      (asked answered : List ℕ) (to : Carries other input asked) (from : Carries output back answered) where
-    abbrev sent_bytes : List Exchange → List ℕ
-    sent_bytes served = talk_bytes server.graph.format Plain served
-
-    has_served : (served : List Exchange) (between : Option (List ℕ)) (tail written missing : List ℕ)
-        → ReadsTurns server tools.packs (record { old = input.read.old; new = between }) served
-        → ((left : List ℕ) → between ≡ Some left → NoReplyAfter server tools left tail)
-        → Appends output.written.old output.written.new written → written ++ missing ≡ sent_bytes served ++ tail
-        → HasServed tools server asked answered
-    has_served served between tail written missing reads none wrote same =
-        let format = server.graph.format in
-        let read = read_from input.read.old between asked (requests_read served) to.read reads.lines in record {
-          served = served;
-          front = read.front;
-          left = read.left;
-          parts = read.parts;
-          spelt = read.spelt;
-          each = reads.each;
-          tail = tail;
-          none = none read.left read.is;
-          missing = missing;
-          wrote = ap (λ (b : List ℕ). b ++ missing) (carried from written wrote) ∙ same
-              ∙ ap (λ (b : List ℕ). b ++ tail) (talk_parts format served)
-              ∙ append_assoc (canonical_all (advert_packets format)) (canonical_all (replies_written served)) tail;
-        }
-
-    -- the conversation ended without an error packet
-    has_ended : (count : ℕ) (served : List Exchange) (Last : Input → Type 0)
-        → Converses server tools.packs input count served Last → Passes output (sent_bytes served)
-        → HasServed tools server asked answered
-    has_ended count served Last conversed passes =
-        has_served served conversed.between [] (sent_bytes served) [] conversed.read
-        (λ left is request more well same. no_bytes tools laws.four) passes.written refl
-
-    -- no reply comes in the error packet of a refusal
-    no_reply : (between : Option (List ℕ)) (fault : ServeFault)
-        → IsRefused server tools.pack_fails (rest_of input between) fault → (left : List ℕ) → between ≡ Some left
-        → NoReplyAfter server tools left (error_bytes (err_text fault))
-    no_reply between fault refused left is request more well same =
-        no_error tools laws.errors (err_text fault)
-        (refused_short laws.ids laws.rounds.requests server tools.pack_fails (rest_of input between) left more request
-        fault refused is well same)
-
-    -- the conversation ended with an error packet, or with a part of it
-    has_refused : (count : ℕ) (served : List Exchange) (fault : ServeFault) (written missing : List ℕ)
-        → Converses server tools.packs input count served
-        (λ (rest : Input). IsRefused server tools.pack_fails rest fault)
-        → Appends output.written.old output.written.new written
-        → written ++ missing ≡ sent_bytes served ++ canonical_all (err_packets fault)
-        → HasServed tools server asked answered
-    has_refused count served fault written missing conversed wrote same =
-        has_served served conversed.between (error_bytes (err_text fault)) written missing conversed.read
-        (no_reply conversed.between fault conversed.last) wrote
-        (same ∙ ap (λ (b : List ℕ). sent_bytes served ++ b) (error_written fault))
-
-    refused_at_once : (fault : ServeFault) (written missing : List ℕ) → CannotBegin input fault
-        → Appends output.written.old output.written.new written
-        → written ++ missing ≡ canonical_all (err_packets fault) → HasRefused answered
-    refused_at_once fault written missing begins wrote same = record {
-      said = err_text fault;
-      short = begun_short input fault begins;
-      missing = missing;
-      wrote = ap (λ (b : List ℕ). b ++ missing) (carried from written wrote) ∙ same ∙ error_written fault;
-    }
-
-    -- ---- a server that failed to write
-
-    -- the list of exchanges with one more exchange
-    more_read : (served : List Exchange) (turn : Exchange)
-        → requests_read (served ++ turn ∷ []) ≡ requests_read served ++ turn.request
-    more_read served turn =
-        flat_map-append (λ (t : Exchange). t.request) served (turn ∷ [])
-        ∙ ap (λ (l : List Packet). requests_read served ++ l) (append-nil turn.request)
-
-    more_written : (served : List Exchange) (turn : Exchange)
-        → replies_written (served ++ turn ∷ []) ≡ replies_written served ++ reply_packets Plain turn.answer
-    more_written served turn =
-        flat_map-append (λ (t : Exchange). reply_packets Plain t.answer) served (turn ∷ [])
-        ∙ ap (λ (l : List Packet). replies_written served ++ l) (append-nil (reply_packets Plain turn.answer))
-
-    -- the last reply was not written whole
-    lacks_reply : (count : ℕ) (served : List Exchange) (turn : Exchange) (written missing : List ℕ)
-        (Last : Input → Type 0) → (conversed : Converses server tools.packs input count served Last)
-        → ReadsTurn server tools.packs (rest_of input conversed.between) turn
-        → Appends output.written.old output.written.new written
-        → written ++ missing ≡ sent_bytes served ++ canonical_all (reply_packets Plain turn.answer)
-        → HasServed tools server asked answered
-    lacks_reply count served turn written missing Last conversed reads wrote same =
-        let format = server.graph.format in
-        let packets = reply_packets Plain turn.answer in
-        let first = read_from input.read.old conversed.between asked (requests_read served) to.read
-        conversed.read.lines in
-        let last = read_from conversed.between input.read.new first.left turn.request first.is reads.lines in record {
-          served = served ++ turn ∷ [];
-          front = first.front ++ last.front;
-          left = last.left;
-          parts = first.parts ∙ ap (λ (b : List ℕ). first.front ++ b) last.parts
-              ∙ sym (append_assoc first.front last.front last.left);
-          spelt = subst (λ (l : List Packet). SpellsAll l (first.front ++ last.front)) (sym (more_read served turn))
-              (laws.join (requests_read served) turn.request first.front last.front first.spelt last.spelt);
-          each = All-push (IsExchange server tools.packs) served turn conversed.read.each reads.is_turn;
-          tail = [];
-          none = λ request more well is. no_bytes tools laws.four;
-          missing = missing;
-          wrote = ap (λ (b : List ℕ). b ++ missing) (carried from written wrote) ∙ same
-              ∙ ap (λ (b : List ℕ). b ++ canonical_all packets) (talk_parts format served)
-              ∙ append_assoc (canonical_all (advert_packets format)) (canonical_all (replies_written served))
-              (canonical_all packets)
-              ∙ ap (λ (b : List ℕ). canonical_all (advert_packets format) ++ b)
-              (sym (laws.rounds.joins (replies_written served) packets)
-              ∙ ap canonical_all (sym (more_written served turn))
-              ∙ sym (append-nil (canonical_all (replies_written (served ++ turn ∷ [])))));
-        }
-
-    -- the last message was not written whole
-    lacks_due : (count : ℕ) (served : List Exchange) (due : List Packet) (written missing : List ℕ)
-        (Last : Input → Type 0) → (conversed : Converses server tools.packs input count served Last)
-        → IsDue server tools.packs tools.pack_fails Plain (rest_of input conversed.between) due
-        → Appends output.written.old output.written.new written
-        → written ++ missing ≡ sent_bytes served ++ canonical_all due → HasServed tools server asked answered
-    lacks_due count served due written missing Last conversed (reply turn reads) wrote same =
-        lacks_reply count served turn written missing Last conversed reads wrote same
-    lacks_due count served due written missing Last conversed (refusal fault refused) wrote same =
-        has_refused count served fault written missing
-        (record { between = conversed.between; read = conversed.read; count = conversed.count; last = refused }) wrote
-        same
-
-    -- the first message was not written whole
-    lacks_first : (due : List Packet) (written missing : List ℕ) → IsDueFirst server.graph.format input due
-        → Appends output.written.old output.written.new written → written ++ missing ≡ canonical_all due
-        → HasServed tools server asked answered ⊎ HasRefused answered
-    lacks_first due written missing (first_advert unread) wrote same =
-        let all = canonical_all (advert_packets server.graph.format) in
-        inl (record {
-          served = [];
-          front = [];
-          left = asked;
-          parts = refl;
-          spelt = refl;
-          each = All-nil (IsExchange server tools.packs);
-          tail = [];
-          none = λ request more well is. no_bytes tools laws.four;
-          missing = missing;
-          wrote = ap (λ (b : List ℕ). b ++ missing) (carried from written wrote) ∙ same ∙ sym (append-nil all);
-        })
-    lacks_first due written missing (first_refusal fault begins) wrote same =
-        inr (refused_at_once fault written missing begins wrote same)
-
-    -- ---- every end of a conversation
-
-    all_sent : (bytes : List ℕ) → bytes ++ [] ≡ bytes
-    all_sent bytes = append-nil bytes
-
-    serves : (count : ℕ) (ended : End) → Serves server tools.packs tools.pack_fails Plain input output count ended
-        → HasServed tools server asked answered ⊎ HasRefused answered
-    serves count end.Closed (served, room, conversed, passes) =
-        inl (has_ended count served (ReadsEmpty server.graph.format) conversed passes)
-    serves count end.Ended (served, conversed, passes) = inl (has_ended count served (HasEnded count) conversed passes)
-    serves count (end.Refused fault) (inl (served, room, conversed, passes)) =
-        let written = sent_bytes served ++ canonical_all (err_packets fault) in
-        inl (has_refused count served fault written [] conversed passes.written (append-nil written))
-    serves count (end.Refused fault) (inr (none, begins, passes)) =
-        let written = canonical_all (err_packets fault) in
-        inr (refused_at_once fault written [] begins passes.written (append-nil written))
-    serves count end.WriteFailed (inl (served, due, room, conversed, sends)) =
-        inl (lacks_due count served due (sent_bytes served ++ sends.front) sends.rest
-        (λ (rest : Input). IsDue server tools.packs tools.pack_fails Plain rest due) conversed conversed.last
-        sends.written
-        (append_assoc (sent_bytes served) sends.front sends.rest
-        ∙ ap (λ (b : List ℕ). sent_bytes served ++ b) (sym sends.parts)))
-    serves count end.WriteFailed (inr (due, none, first, sends, keeps)) =
-        lacks_first due sends.front sends.rest first sends.written (sym sends.parts)
 
   -- ---- the beginning
 
@@ -351,52 +138,29 @@ module _ {A : Type 0} {tools : PackTools A} (laws : JoinedLaws tools) where
     refl,
   )
 
-  -- ---- the whole fetch
+  -- ---- the rounds over two connected ends
 
-  module _ (server : Server A) (repo new : RepoState A) (specs : Vec Refspec A) (fetched : Fetched A)
-      (asked answered : List ℕ) where
-    abbrev updates : List RefUpdate
-    updates = fetched.settled.updates.items
-
+  module _ (server : Server A) (repo new : RepoState A) (specs : Vec Refspec A) (asked answered : List ℕ) where
     abbrev format : Format
     format = server.graph.format
 
-    -- the run, from the rest of the fetch behind the event `Begin`
-    whole_run : (session : SessionState A) (wanted : List ℕ) (unread : Option (List ℕ)) (rest left missing : List ℕ)
-        → AreEndsConnected (new_world server repo)
-        → StepsListed tools (new_world server repo) (event.Begin specs) outcomes.Done
-        (world_at server session repo [] [] false)
-        → asked ≡ wanted ++ request_bytes format Empty
-        → answered ++ missing ≡ canonical_all (advert_packets format) ++ rest → unread ≡ Some left
-        → GoesOn tools server (world_at server session repo [] [] false) 0 wanted rest (left ++ missing) new updates
-        → IsWorldRun tools server repo specs asked answered unread new fetched
-    whole_run session wanted unread rest left missing ends first wrote read is then =
-        let w = new_world server repo in
-        let hello = canonical_all (advert_packets format) in
-        let replies = flat_map (λ (one : Kept). reply_bytes one.reply) then.more in
-        let run : RunWith (StepsListed tools) w (fetch_events specs then.more) (fetch_outcomes then.taken updates)
-        then.last = (world_at server session repo [] [] false, first, then.run) in record {
-          kept = then.more;
-          taken = then.taken;
-          last = then.last;
-          run = run_maps (λ (v : WorldState A). v) (StepsListed tools) (Step tools)
-              (λ (v : WorldState A) (e : Event A) (outcome : Outcome) (u : WorldState A) step. step.step) w then.last
-              (fetch_events specs then.more) (fetch_outcomes then.taken updates) run;
-          promises = λ can. (laws.keeps w then.last (fetch_events specs then.more) (fetch_outcomes then.taken updates)
-              ends (laws.sound server repo can) run).0;
-          done = then.done;
-          repo_after = then.repo_after;
-          server_after = then.server_after;
-          replies = then.replies;
-          requests = then.requests;
-          wrote = wrote ∙ ap (λ (b : List ℕ). b ++ request_bytes format Empty) (then.wrote
-              ∙ ap (λ (l : List Asked). flat_map (λ one. request_bytes format one) l) (sym then.requests));
-          more = left;
-          read = append_cancel_right answered (hello ++ replies ++ left) missing
-              (read ∙ ap (λ (b : List ℕ). hello ++ b) then.read ∙ sym (append_assoc hello replies (left ++ missing))
-              ∙ sym (append_assoc (hello ++ replies) left missing));
-          rest = is;
-        }
+    abbrev start : Start A
+    start = start_of repo specs.items default_limit Plain
+
+    -- the event `Begin`, and all rounds of the turns, with the events `late` behind them
+    record HasRun (turns : List Turn) (between : Option (List ℕ)) (late : List (Event A)) (told : List Outcome)
+        : Type 0 where
+      formats : repo.graph.format ≡ format
+      session : SessionState A
+      left : List ℕ
+      missing : List ℕ
+      rest : List ℕ
+      is : between ≡ Some left
+      first : StepsListed tools (new_world server repo) (event.Begin specs) outcomes.Done
+          (world_at server session repo [] [] false)
+      read : answered ++ missing ≡ canonical_all (advert_packets format) ++ rest
+      goes : GoesOn tools server (world_at server session repo [] [] false) 0 (requests_bytes format turns) rest
+          (left ++ missing) new late told
 
     -- the bytes that the client read first, and the bytes behind them
     read_parts : (first then left missing front whole rest : List ℕ) → answered ≡ front ++ left → front ≡ first ++ then
@@ -405,21 +169,18 @@ module _ {A : Type 0} {tools : PackTools A} (laws : JoinedLaws tools) where
         sym (append_assoc first then (left ++ missing)) ∙ ap (λ (l : List ℕ). l ++ (left ++ missing)) (sym both)
         ∙ sym (append_assoc front left missing) ∙ ap (λ (l : List ℕ). l ++ missing) (sym parts) ∙ same
 
-    -- a fetch over the bytes of a server
-    fetched_run : (input : Input) (output : Output) (back : Output) (to : Input)
-        → AreEndsConnected (new_world server repo) → AreSources specs.items → IsRefs new.refs
-        → Carries output to asked → Carries back input answered → HasServed tools server asked answered
-        → HasFetched tools.indexes tools.index_fails (start_of repo specs.items default_limit Plain) input output new
-        fetched
-        → IsWorldRun tools server repo specs asked answered input.read.new new fetched
-    fetched_run input output back to ends valid_sources refs sends receives served h =
-        let start = start_of repo specs.items default_limit Plain in
-        let conversed = h.converses in
-        let turns = h.talk in
+    -- the turns of a client over the bytes of a server
+    has_run : (input : Input) (back : Output) (talk : List Turn) (last : ClientState A) (Rest : Input → Type 0)
+        (behind : List ℕ) (late : List (Event A)) (told : List Outcome) → AreEndsConnected (new_world server repo)
+        → AreSources specs.items → Carries back input answered → HasServed tools server asked answered
+        → (conversed : Converses tools.indexes tools.index_fails start input talk last Rest)
+        → asked ≡ requests_bytes repo.graph.format talk ++ behind
+        → IsEnd tools server specs.items last new late told → HasRun talk conversed.between late told
+    has_run input back talk last Rest behind late told ends valid_sources receives served conversed wrote is_end =
         let replies = canonical_all (replies_written served.served) ++ served.tail in
-        let read = read_from input.read.old conversed.between answered (conversed.packets ++ replies_read turns)
+        let read = read_from input.read.old conversed.between answered (conversed.packets ++ replies_read talk)
         receives.read conversed.read in
-        let parts = laws.rounds.split conversed.packets (replies_read turns) read.front read.spelt in
+        let parts = laws.rounds.split conversed.packets (replies_read talk) read.front read.spelt in
         let rest = read.left ++ served.missing in
         let hears : IsHeard format conversed.capabilities (parts.1 ++ rest) replies =
         heard format conversed.packets conversed.capabilities parts.0 (parts.1 ++ rest) replies
@@ -429,9 +190,8 @@ module _ {A : Type 0} {tools : PackTools A} (laws : JoinedLaws tools) where
         let formats : repo.graph.format ≡ format = one_format repo.graph.format format
         (subst (λ (c : List Capability). check_fault repo.graph.format c ≡ None) hears.same
         conversed.advertises.fits) in
-        let wrote : asked ≡ requests_bytes format turns ++ request_bytes format Empty =
-        carried sends (requests_bytes repo.graph.format turns ++ request_bytes repo.graph.format Empty) h.passed.written
-        ∙ ap (λ (f : Format). requests_bytes f turns ++ request_bytes f Empty) formats in
+        let here : asked ≡ requests_bytes format talk ++ behind =
+        wrote ∙ ap (λ (f : Format). requests_bytes f talk ++ behind) formats in
         let first = hear_advert start conversed.capabilities in
         let valid = begun_session repo specs.items conversed.capabilities ends.repo ends.graph conversed.few in
         let begun_step = stepped tools server laws.rounds ends.server specs.items valid_sources (new_world server repo)
@@ -443,22 +203,27 @@ module _ {A : Type 0} {tools : PackTools A} (laws : JoinedLaws tools) where
           ends_are = refl;
           limits_are = refl;
           specs_are = refl;
-        } in
-        let then = goes_on tools server laws.rounds ends.server specs.items valid_sources turns served.served first
-        h.last [] [] false 0 served.front served.left (request_bytes format Empty) parts.1 rest served.tail new updates
-        refl refl begun_step.1 plain conversed.each served.each served.spelt (sym served.parts ∙ wrote) parts.4
-        hears.left served.none
-        (record { stage = h.settles_next; settles = h.settles; refs_after = refs }) in
-        whole_run first.session (requests_bytes format turns) input.read.new replies read.left served.missing ends
-        begun_step.0 wrote served.wrote (conversed.rest.unread ∙ read.is) then
+        } in record {
+          formats = formats;
+          session = first.session;
+          left = read.left;
+          missing = served.missing;
+          rest = replies;
+          is = read.is;
+          first = begun_step.0;
+          read = served.wrote;
+          goes = goes_on tools server laws.rounds ends.server specs.items valid_sources talk served.served first last []
+              [] false 0 served.front served.left behind parts.1 rest served.tail new late told refl refl begun_step.1
+              plain conversed.each served.each served.spelt (sym served.parts ∙ here) parts.4 hears.left served.none
+              is_end;
+        }
 
     -- a client accepts no error packet as the advertisement
-    refused_none : (input : Input) (output : Output) (back : Output) → Carries back input answered → HasRefused answered
-        → HasFetched tools.indexes tools.index_fails (start_of repo specs.items default_limit Plain) input output new
-        fetched → ⊥
-    refused_none input output back receives refused h =
-        let conversed = h.converses in
-        let replies = replies_read h.talk in
+    refused_none : (input : Input) (back : Output) (talk : List Turn) (last : ClientState A) (Rest : Input → Type 0)
+        → Carries back input answered → HasRefused answered
+        → Converses tools.indexes tools.index_fails start input talk last Rest → ⊥
+    refused_none input back talk last Rest receives refused conversed =
+        let replies = replies_read talk in
         let read = read_from input.read.old conversed.between answered (conversed.packets ++ replies) receives.read
         conversed.read in
         let parts = laws.rounds.split conversed.packets replies read.front read.spelt in
@@ -467,13 +232,219 @@ module _ {A : Type 0} {tools : PackTools A} (laws : JoinedLaws tools) where
         (read_parts parts.0 parts.1 read.left refused.missing read.front [] (error_bytes refused.said) read.parts parts.2
         refused.wrote)
 
+    runs : (input : Input) (back : Output) (talk : List Turn) (last : ClientState A) (Rest : Input → Type 0)
+        (behind : List ℕ) (late : List (Event A)) (told : List Outcome) → AreEndsConnected (new_world server repo)
+        → AreSources specs.items → Carries back input answered
+        → HasServed tools server asked answered ⊎ HasRefused answered
+        → (conversed : Converses tools.indexes tools.index_fails start input talk last Rest)
+        → asked ≡ requests_bytes repo.graph.format talk ++ behind
+        → IsEnd tools server specs.items last new late told → HasRun talk conversed.between late told
+    runs input back talk last Rest behind late told ends valid_sources receives (inl served) conversed wrote is_end =
+        has_run input back talk last Rest behind late told ends valid_sources receives served conversed wrote is_end
+    runs input back talk last Rest behind late told ends valid_sources receives (inr refused) conversed wrote is_end =
+        absurd (refused_none input back talk last Rest receives refused conversed)
+
+    -- the replies of a run, as the client read them
+    replies_came : (turns : List Turn) (between : Option (List ℕ)) (late : List (Event A)) (told : List Outcome)
+        → (has : HasRun turns between late told)
+        → answered ≡ canonical_all (advert_packets format)
+        ++ flat_map (λ (one : Kept). reply_bytes one.reply) has.goes.more ++ has.left
+    replies_came turns between late told has =
+        let hello = canonical_all (advert_packets format) in
+        let replies = flat_map (λ (one : Kept). reply_bytes one.reply) has.goes.more in
+        append_cancel_right answered (hello ++ replies ++ has.left) has.missing
+        (has.read ∙ ap (λ (b : List ℕ). hello ++ b) has.goes.read
+        ∙ sym (append_assoc hello replies (has.left ++ has.missing))
+        ∙ sym (append_assoc (hello ++ replies) has.left has.missing))
+
+    -- the requests of a run, as the client wrote them
+    requests_went : (turns : List Turn) (between : Option (List ℕ)) (late : List (Event A)) (told : List Outcome)
+        → (has : HasRun turns between late told)
+        → requests_bytes repo.graph.format turns
+        ≡ flat_map (λ (one : Asked). request_bytes format one) has.goes.last.sent
+    requests_went turns between late told has =
+        ap (λ (f : Format). requests_bytes f turns) has.formats ∙ has.goes.wrote
+        ∙ ap (λ (l : List Asked). flat_map (λ (one : Asked). request_bytes format one) l) (sym has.goes.requests)
+
+    -- ---- a fetch that succeeds
+
+    whole_run : (fetched : Fetched A) (turns : List Turn) (between unread : Option (List ℕ))
+        → AreEndsConnected (new_world server repo)
+        → asked ≡ requests_bytes repo.graph.format turns ++ request_bytes repo.graph.format Empty → unread ≡ between
+        → HasRun turns between (event.Settle ∷ []) (settled_outcome fetched.settled.updates.items ∷ [])
+        → IsWorldRun tools server repo specs asked answered unread new fetched
+    whole_run fetched turns between unread ends wrote same has =
+        let w = new_world server repo in
+        let then = has.goes in
+        let events = fetch_events specs then.more in
+        let told = fetch_outcomes then.taken fetched.settled.updates.items in
+        let run : RunWith (StepsListed tools) w events told then.last =
+        (world_at server has.session repo [] [] false, has.first, then.run) in record {
+          kept = then.more;
+          taken = then.taken;
+          last = then.last;
+          run = listed_run tools w then.last events told run;
+          promises = λ can. (laws.keeps w then.last events told ends (laws.sound server repo can) run).0;
+          done = then.done;
+          repo_after = then.repo_after;
+          server_after = then.server_after;
+          replies = then.replies;
+          requests = then.requests;
+          wrote = wrote ∙ ap (λ (f : Format). requests_bytes repo.graph.format turns ++ request_bytes f Empty) has.formats
+              ∙ ap (λ (b : List ℕ). b ++ request_bytes format Empty)
+              (requests_went turns between (event.Settle ∷ []) (settled_outcome fetched.settled.updates.items ∷ []) has);
+          more = has.left;
+          read = replies_came turns between (event.Settle ∷ []) (settled_outcome fetched.settled.updates.items ∷ []) has;
+          rest = same ∙ has.is;
+        }
+
+    -- ---- any fetch
+
+    some_run : (turns : List Turn) (between : Option (List ℕ)) (late : List (Event A)) (told : List Outcome)
+        (behind : List ℕ) → AreEndsConnected (new_world server repo) → All IsOfFetch late
+        → asked ≡ requests_bytes repo.graph.format turns ++ behind → HasRun turns between late told
+        → IsSomeRun tools server repo asked answered new
+    some_run turns between late told behind ends of_fetch wrote has =
+        let w = new_world server repo in
+        let then = has.goes in
+        let events = event.Begin specs ∷ events_from 0 then.more late in
+        let outcomes = outcomes.Done ∷ outcomes_from 0 then.taken told in
+        let run : RunWith (StepsListed tools) w events outcomes then.last =
+        (world_at server has.session repo [] [] false, has.first, then.run) in record {
+          events = events;
+          told = outcomes;
+          last = then.last;
+          run = listed_run tools w then.last events outcomes run;
+          promises = λ can. (laws.keeps w then.last events outcomes ends (laws.sound server repo can) run).0;
+          of_fetch = All-cons IsOfFetch (event.Begin specs) (events_from 0 then.more late) tt
+              (rounds_of_fetch 0 then.more late of_fetch);
+          repo_after = then.repo_after;
+          server_after = then.server_after;
+          requests = then.requests ∙ ap (λ (l : List Kept). map (λ (one : Kept). one.asked) l) (sym then.replies);
+          behind = behind;
+          wrote = wrote ∙ ap (λ (b : List ℕ). b ++ behind) (requests_went turns between late told has);
+          more = has.left;
+          read = inr (replies_came turns between late told has
+              ∙ ap (λ (l : List Kept). canonical_all (advert_packets format)
+              ++ flat_map (λ (one : Kept). reply_bytes one.reply) l ++ has.left) (sym then.replies));
+        }
+
+    -- a run of no events
+    no_run : new ≡ repo → IsSomeRun tools server repo asked answered new
+    no_run same = record {
+      events = [];
+      told = [];
+      last = new_world server repo;
+      run = refl;
+      promises = λ can. refl;
+      of_fetch = All-nil IsOfFetch;
+      repo_after = sym same;
+      server_after = refl;
+      requests = refl;
+      behind = asked;
+      wrote = refl;
+      more = [];
+      read = inl refl;
+    }
+
+    -- ---- the bytes that a client wrote before it failed
+
+    has_asked : (f : Format) (turns : List Turn) (output : Output) (to : Input) → Carries output to asked
+        → HasAsked f output turns → asked ≡ requests_bytes f turns ++ []
+    has_asked f [] output to sends unwritten =
+        carried sends [] (appends_none output.written.old output.written.new unwritten.written)
+    has_asked f (turn ∷ turns) output to sends passes =
+        carried sends (requests_bytes f (turn ∷ turns)) passes.written
+        ∙ sym (append-nil (requests_bytes f (turn ∷ turns)))
+
+    -- a part of the next message
+    has_sent_part : (f : Format) (turns : List Turn) (due : List ℕ) (output : Output) (to : Input)
+        → Carries output to asked → FailsToAsk f output turns due
+        → (part : List ℕ) × (asked ≡ requests_bytes f turns ++ part)
+    has_sent_part f [] due output to sends fails = (fails.0.front, carried sends fails.0.front fails.0.written)
+    has_sent_part f (turn ∷ turns) due output to sends fails =
+        (fails.front, carried sends (requests_bytes f (turn ∷ turns) ++ fails.front) fails.written)
+
+    module _ (ends : AreEndsConnected (new_world server repo)) (valid_sources : AreSources specs.items)
+        (refs : IsRefs new.refs) (input : Input) (output back : Output) (to : Input) (sends : Carries output to asked)
+        (receives : Carries back input answered)
+        (either : HasServed tools server asked answered ⊎ HasRefused answered) where
+      -- a fetch that stopped after its turns
+      stopped : (talk : List Turn) (last : ClientState A) (Rest : Input → Type 0) (behind : List ℕ)
+          → Converses tools.indexes tools.index_fails start input talk last Rest
+          → asked ≡ requests_bytes repo.graph.format talk ++ behind → new ≡ last.repo
+          → IsSomeRun tools server repo asked answered new
+      stopped talk last Rest behind conversed wrote same =
+          some_run talk conversed.between [] [] behind ends (All-nil IsOfFetch) wrote
+          (runs input back talk last Rest behind [] [] ends valid_sources receives either conversed wrote
+          (stops tools server laws.rounds ends.server specs.items valid_sources last new same))
+
+      settle_fetches : All (IsOfFetch {A = A}) (event.Settle ∷ [])
+      settle_fetches = All-cons IsOfFetch event.Settle [] tt (All-nil IsOfFetch)
+
+      failed : (fault : FetchFault A) → Fails tools.indexes tools.index_fails start input output new fault
+          → IsSomeRun tools server repo asked answered new
+      failed fault (cannot_begin cause begins unread unwritten same) = no_run same
+      failed fault (no_buffer few unread unwritten same) = no_run same
+      failed fault (cannot_hear cause few refuses unwritten same) = no_run same
+      failed fault (cannot_ask talk last after conversed asks wrote same) =
+          stopped talk last (λ (rest : Input). IsLeft rest) [] conversed
+          (has_asked repo.graph.format talk output to sends wrote) same
+      failed fault (cannot_send talk last request conversed due wrote same) =
+          let part = has_sent_part repo.graph.format talk (request_bytes repo.graph.format request) output to sends
+          wrote in
+          stopped talk last (λ (rest : Input). IsLeft rest) part.0 conversed part.1 same
+      failed fault (cannot_take talk last request waiting cause asks conversed passes same) =
+          stopped talk last (λ (rest : Input). Refuses tools.indexes tools.index_fails waiting request last.repo rest cause)
+          (request_bytes repo.graph.format request) conversed
+          (carried sends (requests_bytes repo.graph.format talk ++ request_bytes repo.graph.format request)
+          passes.written) same
+      failed fault (cannot_settle talk last cause conversed stage passes asks) =
+          let f = repo.graph.format in
+          let wrote = carried sends (requests_bytes f talk ++ request_bytes f Empty) passes.written in
+          some_run talk conversed.between (event.Settle ∷ []) (outcomes.Fault (code_of (client.Repo cause)) ∷ [])
+          (request_bytes f Empty) ends settle_fetches wrote
+          (runs input back talk last (λ (rest : Input). IsLeft rest) (request_bytes f Empty) (event.Settle ∷ [])
+          (outcomes.Fault (code_of (client.Repo cause)) ∷ []) ends valid_sources receives either conversed wrote
+          (settles_none tools server laws.rounds ends.server specs.items valid_sources last new cause stage asks refs))
+
+      -- the run of a fetch that succeeded
+      succeeds : (fetched : Fetched A)
+          → (h : HasFetched tools.indexes tools.index_fails start input output new fetched)
+          → HasRun h.talk h.converses.between (event.Settle ∷ [])
+          (settled_outcome fetched.settled.updates.items ∷ [])
+      succeeds fetched h =
+          let f = repo.graph.format in
+          let updates = fetched.settled.updates.items in
+          runs input back h.talk h.last (λ (rest : Input). IsLeft rest) (request_bytes f Empty) (event.Settle ∷ [])
+          (settled_outcome updates ∷ []) ends valid_sources receives either h.converses
+          (carried sends (requests_bytes f h.talk ++ request_bytes f Empty) h.passed.written)
+          (settles tools server laws.rounds ends.server specs.items valid_sources h.last new updates h.settles_next
+          h.settles refs)
+
+      any : (result : Result (Fetched A) (FetchFault A))
+          → FetchesOver tools.indexes tools.index_fails start input output new result → IsSomeRun tools server repo asked answered new
+      any (Err fault) fails = failed fault fails
+      any (Ok fetched) h =
+          let f = repo.graph.format in
+          some_run h.talk h.converses.between (event.Settle ∷ []) (settled_outcome fetched.settled.updates.items ∷ [])
+          (request_bytes f Empty) ends settle_fetches
+          (carried sends (requests_bytes f h.talk ++ request_bytes f Empty) h.passed.written) (succeeds fetched h)
+
   pub fetches_are_runs : FetchesAreRuns tools
-  fetches_are_runs server repo new specs fetched input heard_in output said asked answered count ended ends specs_are refs
-      sends receives fetches served =
-      elim (serves server heard_in said output input asked answered sends receives count ended served)
-      as (λ _. IsWorldRun tools server repo specs asked answered input.read.new new fetched) [
-        | inl whole ↦ fetched_run server repo new specs fetched asked answered input output said heard_in ends
-            (sources specs.items specs_are) refs sends receives whole fetches
-        | inr refused ↦ absurd (refused_none server repo new specs fetched asked answered input output said receives
-            refused fetches)
-      ]
+  fetches_are_runs server repo new specs fetched input asked answered joined =
+      let h = joined.fetches in
+      let f = repo.graph.format in
+      let served = serves laws server joined.heard joined.said joined.output input asked answered joined.asks
+      joined.answers joined.count joined.ended joined.serves in
+      whole_run server repo new specs asked answered fetched h.talk h.converses.between input.read.new joined.ends
+      (carried joined.asks (requests_bytes f h.talk ++ request_bytes f Empty) h.passed.written) h.converses.rest.unread
+      (succeeds server repo new specs asked answered joined.ends (sources specs.items joined.specs_are) joined.refs input
+      joined.output joined.said joined.heard joined.asks joined.answers served fetched h)
+
+  pub any_fetch_is_a_run : AnyFetchIsARun tools
+  any_fetch_is_a_run server repo new specs result input asked answered joined =
+      any server repo new specs asked answered joined.ends (sources specs.items joined.specs_are) joined.refs input
+      joined.output joined.said joined.heard joined.asks joined.answers
+      (serves laws server joined.heard joined.said joined.output input asked answered joined.asks joined.answers
+      joined.count joined.ended joined.serves) result joined.fetches

@@ -1,6 +1,6 @@
--- Two connected ends: a client that fetches from a server, each of which reads the bytes that the other wrote. Such a
+-- Two connected ends: a client that fetches and a server, each of which reads the bytes that the other wrote. Such a
 -- fetch is a run of a world.
-use Rattle.std.specs.Prelude.{◌≡◌, ℕ, ◌+◌, List, [], ◌∷◌, ◌++◌, length, map, All, Option, Some, Ok, Vec}
+use Rattle.std.specs.Prelude.{◌≡◌, ◌⊎◌, ⊤, ℕ, ◌+◌, List, [], ◌∷◌, ◌++◌, length, map, All, Option, Some, Result, Ok, Vec}
 use Rattle.std.specs.List.{flat_map}
 use Rattle.gpkt.specs.Packets.{Bytes, canonical_all}
 use Rattle.gpkt.specs.Sending.{Input, Output}
@@ -16,6 +16,7 @@ use Rattle.gserve.specs.Conversations.{Serves, advert_packets}
 use Rattle.gserve.specs.declared.connection.End.{End}
 use Rattle.gfetch.specs.Conversations.{FetchesOver, request_bytes}
 use Rattle.gfetch.specs.Starts.{start_of}
+use Rattle.gfetch.specs.declared.fault.FetchFault.{FetchFault}
 use Rattle.gfetch.specs.declared.fetched.Fetched.{Fetched}
 use Rattle.gscenario.specs.declared.event.Event.{Event}
 use Rattle.gscenario.specs.declared.event.Event.TheVariants as event
@@ -40,32 +41,42 @@ pub record Carries (output : Output) (input : Input) (bytes : Bytes) : Type 0 wh
 
 -- ---- the events of a fetch
 
--- the three events of each round from round `n` on, and `Settle`: the client sends its request, the server replies, and
--- the complete reply arrives
-abbrev pub events_from : {A : Type 0} → ℕ → List Kept → List (Event A)
-events_from n [] = event.Settle ∷ []
-events_from n (kept ∷ more) =
-    event.Ask ∷ event.Serve n ∷ event.Deliver n (length (reply_bytes kept.reply)) ∷ events_from (n + 1) more
+-- the three events of each round from round `n` on, and the events `late` behind them: in a round the client sends its
+-- request, the server replies, and the complete reply arrives
+abbrev pub events_from : {A : Type 0} → ℕ → List Kept → List (Event A) → List (Event A)
+events_from n [] late = late
+events_from n (kept ∷ more) late =
+    event.Ask ∷ event.Serve n ∷ event.Deliver n (length (reply_bytes kept.reply)) ∷ events_from (n + 1) more late
 
--- the events of a fetch with these refspecs, requests and replies
+-- the outcomes of the same events: `taken` has the outcomes of the replies, and `told` those of the events `late`
+abbrev pub outcomes_from : ℕ → List Outcome → List Outcome → List Outcome
+outcomes_from n [] told = told
+outcomes_from n (outcome ∷ more) told =
+    outcomes.Asked n ∷ outcomes.Served n ∷ outcome ∷ outcomes_from (n + 1) more told
+
+-- the events of a fetch with these refspecs, requests and replies, and their outcomes with these outcomes of the ref
+-- updates
 abbrev pub fetch_events : {A : Type 0} → Vec Refspec A → List Kept → List (Event A)
-fetch_events specs kept = event.Begin specs ∷ events_from 0 kept
-
--- the outcomes of the same events: `taken` has the outcomes of the replies, and `updates` the outcomes of the ref updates
-abbrev pub outcomes_from : ℕ → List Outcome → List RefUpdate → List Outcome
-outcomes_from n [] updates = settled_outcome updates ∷ []
-outcomes_from n (outcome ∷ more) updates =
-    outcomes.Asked n ∷ outcomes.Served n ∷ outcome ∷ outcomes_from (n + 1) more updates
+fetch_events specs kept = event.Begin specs ∷ events_from 0 kept (event.Settle ∷ [])
 
 abbrev pub fetch_outcomes : List Outcome → List RefUpdate → List Outcome
-fetch_outcomes taken updates = outcomes.Done ∷ outcomes_from 0 taken updates
+fetch_outcomes taken updates = outcomes.Done ∷ outcomes_from 0 taken (settled_outcome updates ∷ [])
 
--- ---- the law
+-- the event is one of a fetch: it changes neither repository by hand, and forges and repeats nothing
+abbrev pub IsOfFetch : {A : Type 0} → Event A → Type 0
+IsOfFetch (event.Begin specs) = ⊤
+IsOfFetch event.Ask = ⊤
+IsOfFetch (event.Serve number) = ⊤
+IsOfFetch (event.Deliver number count) = ⊤
+IsOfFetch event.Settle = ⊤
+IsOfFetch _ = ⊥
+
+-- ---- the laws
 
 module _ {A : Type 0} (tools : PackTools A) where
-  -- The run of a world of this server and this client: its last world has the repository `new` and an unchanged server.
-  -- The client wrote exactly the requests of the run, and a lone flush packet. It read the advertisement and exactly the
-  -- replies of the run, and left `unread`. If the world can start, each step keeps its promises.
+  -- A run of the world of this server and this client: its last world has the repository `new` and an unchanged server.
+  -- The client wrote exactly the requests of the run, and a lone flush packet. It read the advertisement and the replies
+  -- of the run, and left `unread`. If the world can start, each step keeps its promises.
   pub record IsWorldRun (server : Server A) (repo : RepoState A) (specs : Vec Refspec A) (asked answered : Bytes)
       (unread : Option Bytes) (new : RepoState A) (fetched : Fetched A) : Type 0 where
     pub kept : List Kept
@@ -87,16 +98,60 @@ module _ {A : Type 0} (tools : PackTools A) where
         ++ flat_map (λ one. reply_bytes one.reply) kept ++ more
     pub rest : unread ≡ Some more
 
-  -- A plain fetch that succeeds, and the conversation of a server, are a run of the world of the same server and the
-  -- same client, if each end reads exactly the bytes that the other wrote. The last world of the run has the repository
-  -- that the fetch left.
+  -- A run of the world of this server and this client, with events of a fetch only: its last world has the repository
+  -- `new` and an unchanged server. The client first wrote the requests of the run. It read the advertisement and first
+  -- the replies of the run, if any. If the world can start, each step keeps its promises.
+  pub record IsSomeRun (server : Server A) (repo : RepoState A) (asked answered : Bytes) (new : RepoState A)
+      : Type 0 where
+    pub events : List (Event A)
+    pub told : List Outcome
+    pub last : WorldState A
+    pub run : Run tools (new_world server repo) events told last
+    pub promises : CanStart server repo → RunWith (Promises tools) (new_world server repo) events told last
+    pub of_fetch : All IsOfFetch events
+    pub repo_after : last.repo ≡ new
+    pub server_after : last.server ≡ server
+    pub requests : last.sent ≡ map (λ one. one.asked) last.kept
+    pub behind : Bytes
+    pub wrote : asked ≡ flat_map (λ one. request_bytes server.graph.format one) last.sent ++ behind
+    pub more : Bytes
+    pub read : (last.kept ≡ []) ⊎ (answered ≡ canonical_all (advert_packets server.graph.format)
+        ++ flat_map (λ one. reply_bytes one.reply) last.kept ++ more)
+
+  -- A client's fetch and a server's conversation, each of which reads exactly the bytes that the other wrote. The fetch
+  -- has the default options. The types of server, repository and refspecs guarantee the first premises.
+  pub record AreJoined (server : Server A) (repo : RepoState A) (specs : Vec Refspec A) (asked answered : Bytes)
+      (input : Input) (new : RepoState A) (result : Result (Fetched A) (FetchFault A)) : Type 0 where
+    pub ends : AreEndsConnected (new_world server repo)
+    pub specs_are : All IsRefspec specs.items
+    pub refs : IsRefs new.refs
+    pub heard : Input
+    pub output : Output
+    pub said : Output
+    pub count : ℕ
+    pub ended : End
+    pub asks : Carries output heard asked
+    pub answers : Carries said input answered
+    pub fetches : FetchesOver tools.indexes tools.index_fails (start_of repo specs.items default_limit Plain) input
+        output new result
+    pub serves : Serves server tools.packs tools.pack_fails Plain heard said count ended
+
+  -- A fetch that succeeds over two connected ends is a run of the world of the same server and the same client. The
+  -- last world of the run has the repository that the fetch left.
   abbrev pub FetchesAreRuns : Type 0
   FetchesAreRuns =
-      (server : Server A) (repo new : RepoState A) (specs : Vec Refspec A) (fetched : Fetched A) (input heard : Input)
-      (output said : Output) (asked answered : Bytes) (count : ℕ) (ended : End)
-      → AreEndsConnected (new_world server repo) → All IsRefspec specs.items → IsRefs new.refs
-      → Carries output heard asked → Carries said input answered
-      → FetchesOver tools.indexes tools.index_fails (start_of repo specs.items default_limit Plain) input output new
-      (Ok fetched)
-      → Serves server tools.packs tools.pack_fails Plain heard said count ended
+      (server : Server A) (repo new : RepoState A) (specs : Vec Refspec A) (fetched : Fetched A) (input : Input)
+      (asked answered : Bytes) → AreJoined server repo specs asked answered input new (Ok fetched)
       → IsWorldRun server repo specs asked answered input.read.new new fetched
+
+  -- whatever the result of a fetch over two connected ends, it left the repository that some run of the world left
+  abbrev pub AnyFetchIsARun : Type 0
+  AnyFetchIsARun =
+      (server : Server A) (repo new : RepoState A) (specs : Vec Refspec A) (result : Result (Fetched A) (FetchFault A))
+      (input : Input) (asked answered : Bytes) → AreJoined server repo specs asked answered input new result
+      → IsSomeRun server repo asked answered new
+
+  -- both laws
+  pub record JoinedFetchesAreRuns : Type 0 where
+    pub whole : FetchesAreRuns
+    pub any : AnyFetchIsARun

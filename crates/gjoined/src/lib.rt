@@ -1,31 +1,34 @@
-//! Two connected ends are a run of the world: a client that fetches, and a server, each of which
-//! reads exactly the bytes that the other wrote.
+//! Two connected ends are a run of a world: a client that fetches and a server, each of which reads
+//! exactly the bytes that the other wrote.
 //!
 //! # Proved
 //!
-//! - **A successful fetch is a run of a world** ([`fetches_are_runs`]). Consider a plain fetch of
-//!   `gfetch` that succeeds, and a conversation of a server of `gserve`. Each end reads exactly the
-//!   bytes that the other wrote. The two are then a run of the world (`gworld`) that is made of the
-//!   same server and of the same client repository. The events are `Begin`, then `Ask`, `Serve` and
-//!   `Deliver` for each request, and at the end `Settle`. No event fails, each reply arrives
-//!   complete, and no bytes are forged. The last world has the repository that the fetch left, and
-//!   its outcome of `Settle` is that of the fetch.
-//! - The requests and the replies of this run are the messages that were exchanged: the client wrote
-//!   the run's requests and a lone flush packet, and read the advertisement and the run's replies.
-//! - All promises of a world's steps hold for the run, if the two ends can start a world: if no
-//!   object differs under the same id. The two ends have the same object format, because the client
-//!   accepted the server's advertisement.
+//! Consider a fetch of `gfetch` with the default options, and a conversation of a server of
+//! `gserve`. Each end reads exactly the bytes that the other wrote ([`fetches_are_runs`]).
 //!
-//! # What the law leaves open
+//! - **A fetch that succeeds is a run of a world** (`FetchesAreRuns`, specs/Joined.antt). The world
+//!   (`gworld`) is made of the same server and the same client repository. The events are `Begin`,
+//!   then `Ask`, `Serve` and `Deliver` for each request, and at the end `Settle`. No event fails,
+//!   and each reply arrives complete. The last world has the repository that the fetch left. The
+//!   outcome of `Settle` counts the ref updates of the fetch.
+//! - The run has the messages that were exchanged. The client wrote the requests of the run and a
+//!   lone flush packet. It read the advertisement and the replies of the run, and nothing more.
+//! - **Any fetch left the repository that a run left**, whatever its result (`AnyFetchIsARun`). The
+//!   run has only events of a fetch. The client first wrote the requests of the run, and read its
+//!   replies. If the client accepted no advertisement, the run has no events.
+//! - All promises of a world's steps hold for these runs, if the two ends can start a world. They
+//!   can if they have one object format, and no object differs under the same id.
+//! - The server's conversation may have any end. The client ended it, or the server refused a
+//!   request, ran out of memory or could not write.
 //!
-//! - The law is about fetches that succeed. A fetch that fails left the effect of its complete
-//!   rounds, and the law says nothing of it.
-//! - The fetch has the default pack options, the default size limit of a pack, and replies that end
-//!   with a flush packet, since a session of a world has these.
-//! - The server's conversation ended because the client ended it, or after the maximum number of
-//!   requests. The law says nothing if the server refused a request, or could not write.
-//! - The law says nothing of which events happen at the two ends in which order, beyond the order of
-//!   the run.
+//! # What the laws leave open
+//!
+//! - A session of a world has the default pack options and size limit, and replies that end with a
+//!   flush packet. The laws do not cover other fetches, listings, or the `git://` transport.
+//! - The run of a fetch that fails ends before the failing request or reply. It lacks the failing
+//!   event, except if `Settle` fails. The laws do not relate other faults to outcomes.
+//! - The premise is about whole conversations: an end can read exactly the bytes that the other
+//!   wrote. The laws do not say when bytes arrive.
 //!
 //! No program of this repository uses this crate, and it has no tests.
 //!
@@ -39,7 +42,7 @@
 #![tactic(auto)]
 
 ghost use Rattle.gworld.specs.Worlds.{tools_of};
-ghost use Rattle.gjoined.specs.Joined.{FetchesAreRuns};
+ghost use Rattle.gjoined.specs.Joined.{JoinedFetchesAreRuns};
 
 use ganswer::laws::{adverts_welcome, fetch_answers_fit, ls_answers_fit};
 use ggrammar::laws::messages_are_read;
@@ -51,11 +54,11 @@ use gpkt::laws::{canonical_spells, has_four_bytes, one_begins, one_reading, spel
 use gworld::laws::{ends_stay_connected, runs_keep_promises};
 use std::alloc::Allocator;
 
-/// Proves that a plain fetch that succeeds, and the conversation of a server that ends well, are a
-/// run of the world of the same server and the same client. Each end must read exactly the bytes
-/// that the other wrote.
+/// Proves that a fetch over two connected ends is a run of the world of the same server and the same
+/// client, if the fetch succeeds. Each end must read exactly the bytes that the other wrote. Any
+/// fetch, successful or not, left the repository that some run of this world left.
 pub fn fetches_are_runs<A: Allocator + Copy, P: Packer<A>, I: KeepingIndexer<A>>()
-    ensures { (packer : P) → FetchesAreRuns (tools_of (P.packs packer) (P.pack_fails packer)
+    ensures { (packer : P) → JoinedFetchesAreRuns (tools_of (P.packs packer) (P.pack_fails packer)
         I.indexes I.index_fails) }
 {
     canonical_spells();

@@ -3,7 +3,8 @@ use Rattle.ghello.specs.Adverts as advert
 use Rattle.glsreply.specs.LsReplies as refs
 use Rattle.grequest.specs.Requests.{judge}
 use Rattle.gworld.specs.Worlds.{tools_of}
-use Rattle.gjoined.proofs.Whole.{JoinedLaws, fetches_are_runs}
+use Rattle.gjoined.proofs.Serving.{JoinedLaws}
+use Rattle.gjoined.proofs.Whole.{any_fetch_is_a_run, fetches_are_runs}
 use Rattle.gjoined.proofs.fetches_are_runs.Goals as goal
 
 pub returns : goal.returns
@@ -53,4 +54,4 @@ returns g c = λ k.
       ids = record { formats = c.ids_have_one_format.ensures; spelt = c.ids_have_texts.ensures };
       errors = record { spells = c.canonical_spells.ensures.line; reading = c.one_reading.ensures };
     } in
-    fetches_are_runs laws
+    record { whole = fetches_are_runs laws; any = any_fetch_is_a_run laws }
