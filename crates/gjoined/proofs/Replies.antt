@@ -152,7 +152,11 @@ module _ {A : Type 0} (tools : PackTools A) (laws : ReplyLaws tools.packs) (serv
           lines = lines;
           read = record {
             whole = says.whole;
-            bytes = (refs_bytes reply, sym (append-nil (refs_bytes reply)), subst (λ (l : List Packet). SpellsAll l (refs_bytes reply)) (sym one.0) written.1);
+            bytes = (
+              refs_bytes reply,
+              sym (append-nil (refs_bytes reply)),
+              subst (λ (l : List Packet). SpellsAll l (refs_bytes reply)) (sym one.0) written.1,
+            );
           };
           says = says;
         },
@@ -178,7 +182,11 @@ module _ {A : Type 0} (tools : PackTools A) (laws : ReplyLaws tools.packs) (serv
           lines = lines;
           read = record {
             whole = says.whole;
-            bytes = (objects_bytes reply, sym (append-nil (objects_bytes reply)), subst (λ (l : List Packet). SpellsAll l (objects_bytes reply)) (sym one.0) written.1);
+            bytes = (
+              objects_bytes reply,
+              sym (append-nil (objects_bytes reply)),
+              subst (λ (l : List Packet). SpellsAll l (objects_bytes reply)) (sym one.0) written.1,
+            );
           };
           says = says;
         },

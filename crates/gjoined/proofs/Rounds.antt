@@ -104,8 +104,9 @@ replies_read turns = flat_map (λ (turn : Turn). turn.reply) turns
 
 -- The client's next request, the server's reply to it, and the client's acceptance of the reply. The bytes that
 -- remain at both ends are those of the later rounds.
-pub record IsRound {A : Type 0} (tools : PackTools A) (server : Server A) (specs : List Refspec) (first next : ClientState A) (one : Kept) (sent : List Asked) (kept : List Kept) (mark : Bool)
-    (n : ℕ) (left more rest after : List ℕ) : Type 0 where
+pub record IsRound {A : Type 0} (tools : PackTools A) (server : Server A) (specs : List Refspec)
+    (first next : ClientState A) (one : Kept) (sent : List Asked) (kept : List Kept) (mark : Bool) (n : ℕ)
+    (left more rest after : List ℕ) : Type 0 where
   pub outcome : Outcome
   pub waiting : SessionState A
   pub asks : StepsListed tools (world_at server first.session first.repo sent kept mark) event.Ask (outcomes.Asked n)
@@ -229,7 +230,8 @@ module _ {A : Type 0} (tools : PackTools A) (server : Server A) where
         → IsTurn tools.indexes tools.index_fails first turn next → IsExchange server tools.packs serve
         → SpellsAll serve.request request → request ++ left ≡ request_bytes server.graph.format turn.asked ++ more
         → SpellsAll turn.reply reply → reply ++ rest ≡ reply_bytes serve.answer ++ after
-        → IsRound tools server specs first next (record { asked = turn.asked; reply = serve.answer }) sent kept mark n left more rest after
+        → IsRound tools server specs first next (record { asked = turn.asked; reply = serve.answer }) sent kept mark n
+        left more rest after
     round first next turn serve sent kept mark n request left more reply rest after count also ends plain is_turn serves
         asks_spelt asks_same reply_spelt reply_same =
         let one : Kept = record { asked = turn.asked; reply = serve.answer } in

@@ -17,8 +17,10 @@ use Rattle.ghello.specs.Adverts as advert
 use Rattle.ganswer.specs.Laws.{AdvertsWelcome}
 use Rattle.ganswer.specs.Servers.{Server}
 use Rattle.ganswer.specs.declared.fault.ServeFault.{ServeFault}
-use Rattle.gserve.specs.Conversations.{CannotBegin, Converses, HasEnded, IsDueFirst, Serves, advert as first_advert, advert_packets, refusal as first_refusal, talk, talk_bytes}
-use Rattle.gserve.specs.Exchanges.{IsDue, IsRefused, IsTurn as IsExchange, ReadsEmpty, ReadsTurn, ReadsTurns, Turn as Exchange, refusal, reply, reply_packets}
+use Rattle.gserve.specs.Conversations.{CannotBegin, Converses, HasEnded, IsDueFirst, Serves, advert as first_advert}
+use Rattle.gserve.specs.Conversations.{advert_packets, refusal as first_refusal, talk, talk_bytes}
+use Rattle.gserve.specs.Exchanges.{IsDue, IsRefused, IsTurn as IsExchange, ReadsEmpty, ReadsTurn, ReadsTurns}
+use Rattle.gserve.specs.Exchanges.{Turn as Exchange, refusal, reply, reply_packets}
 use Rattle.gserve.specs.Refusals.{err_packets, err_text}
 use Rattle.gserve.specs.declared.connection.End.{End}
 use Rattle.gserve.specs.declared.connection.End.TheVariants as end

@@ -75,7 +75,7 @@ IsOfFetch _ = ⊥
 
 module _ {A : Type 0} (tools : PackTools A) where
   -- A run of the world of this server and this client: its last world has the repository `new` and an unchanged server.
-  -- The client wrote exactly the requests of the run, and a lone flush packet. It read the advertisement and the replies
+  -- The client wrote exactly the requests of the run and a lone flush packet. It read the advertisement and the replies
   -- of the run, and left `unread`. If the world can start, each step keeps its promises.
   pub record IsWorldRun (server : Server A) (repo : RepoState A) (specs : Vec Refspec A) (asked answered : Bytes)
       (unread : Option Bytes) (new : RepoState A) (fetched : Fetched A) : Type 0 where

@@ -54,9 +54,9 @@ use gpkt::laws::{canonical_spells, has_four_bytes, one_begins, one_reading, spel
 use gworld::laws::{ends_stay_connected, runs_keep_promises};
 use std::alloc::Allocator;
 
-/// Proves that a fetch over two connected ends is a run of the world of the same server and the same
-/// client, if the fetch succeeds. Each end must read exactly the bytes that the other wrote. Any
-/// fetch, successful or not, left the repository that some run of this world left.
+/// Proves that a fetch over two connected ends is a run of the world of the same server and client,
+/// if the fetch succeeds. Each end must read exactly the bytes that the other wrote. Any fetch,
+/// successful or not, left the repository that some run of this world left.
 pub fn fetches_are_runs<A: Allocator + Copy, P: Packer<A>, I: KeepingIndexer<A>>()
     ensures { (packer : P) → JoinedFetchesAreRuns (tools_of (P.packs packer) (P.pack_fails packer)
         I.indexes I.index_fails) }
