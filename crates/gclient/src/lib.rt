@@ -71,22 +71,18 @@
 #![tactic(auto)]
 
 mod conversation;
-mod fault;
-mod fetched;
 mod git_transport;
 mod greeting;
 pub mod laws;
 mod listing;
 mod send;
-mod turn;
 
-pub use crate::conversation::{fetch_over, fetch_over_with};
-pub use crate::fault::FetchFault;
-pub use crate::fetched::Fetched;
+pub use crate::conversation::fetch_over;
 pub use crate::git_transport::{GitFetch, fetch_git};
-pub use crate::listing::{list_git, list_over};
+pub use crate::listing::list_git;
 pub use crate::send::send_request;
 pub use gclientrepo::{Ask, Asks, RefUpdate, Repo, RepoFault, compat};
+pub use gfetch::{FetchFault, Fetched, fetch_over_with, list_over};
 pub use grefs::{Spec, SpecFault};
 pub use gsession::{
     ClientFault, FetchPlan, LsTaken, MAX_SPECS, PackOptions, Session, Settled, Taken,
