@@ -1,4 +1,4 @@
-use Rattle.std.proofs.Common.{inl, inr, refl, sym, ◌∙◌, arith}
+use Rattle.std.proofs.Common.{inl, inr, sym, ◌∙◌, arith}
 use Rattle.gfetch.proofs.SideLemmas.{failed, rest_then}
 use Rattle.gfetch.proofs.side.ClientSide.answer_refs.Goals as goal
 
