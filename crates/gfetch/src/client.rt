@@ -144,13 +144,12 @@ impl<A: Allocator + Copy> Client<A> {
         ensures repo { self.new.repo ≡ self.old.repo }
         ensures unborn { self.new.unborn ≡ self.old.unborn }
     {
-        let mut walk = mem::replace(&mut self.walk, None);
-        match self.session.request_on(&self.repo, &mut walk) {
-            Ok(request) => {
-                self.walk = walk;
-                Ok(request)
+        match self.session.request_on(&self.repo, &mut self.walk) {
+            Ok(request) => Ok(request),
+            Err(fault) => {
+                self.walk = None;
+                Err(fault)
             }
-            Err(fault) => Err(fault),
         }
     }
 
@@ -196,14 +195,16 @@ impl<A: Allocator + Copy> Client<A> {
         // Laws that the proof uses.
         distinct_are_once();
         self.session.laws();
-        let walk = mem::replace(&mut self.walk, None);
         match self.session.accept_objects(&mut self.repo, indexer, reader) {
-            Ok(Taken::Round { .. }) => {
-                self.walk = walk;
+            Ok(Taken::Round { .. }) => Ok(()),
+            Ok(Taken::PackTaken { .. }) => {
+                self.walk = None;
                 Ok(())
             }
-            Ok(Taken::PackTaken { .. }) => Ok(()),
-            Err(fault) => Err(fault),
+            Err(fault) => {
+                self.walk = None;
+                Err(fault)
+            }
         }
     }
 

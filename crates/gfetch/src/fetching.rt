@@ -105,7 +105,7 @@ fn fetch_to<S: Source, W: Sink, A: Allocator + Copy, K: KeepingIndexer<A>>(
     let side = ClientSide::new(mem::replace(repo, empty), session, indexer);
     let (driven, mut side) = talk(side, room, source, sink);
     let fetched = finish(&mut side, driven);
-    side.client.swap_repo(repo);
+    side.swap_repo(repo);
     let _indexer = side.into_indexer();
     fetched
 }

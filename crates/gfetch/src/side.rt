@@ -15,7 +15,7 @@ ghost use Rattle.gsession.specs.Sessions.{IsBegun};
 ghost use Rattle.gsession.specs.TakingReplies.{Awaits, reading_for};
 ghost use Rattle.gsession.specs.declared.stage.Stage.TheVariants.{Over};
 ghost use Rattle.gdialogue.specs.Sides.{MayAnswer, SaysExactly};
-ghost use Rattle.gfetch.specs.Fetching.{AcceptsReply, AnswersAdvert, DeclinesReply, GoesOn, KeepsObjects, MismatchesAdvert, messages_of};
+ghost use Rattle.gfetch.specs.Fetching.{AcceptsReply, AnswersAdvert, DeclinesReply, GoesOn, KeepsIndexer, KeepsObjects, MismatchesAdvert, messages_of};
 ghost use Rattle.gfetch.specs.Saying.{reply_rest};
 ghost use Rattle.gfetch.specs.steps.Accepting.{KeepsRest};
 
@@ -112,6 +112,14 @@ impl<'k, A: Allocator + Copy, K> ClientSide<'k, A, K> {
         } = self;
         let (repo, session, unborn) = client.into_parts();
         (repo, session, indexer, unborn, fault)
+    }
+
+    /// Exchanges the repository of the side with another repository.
+    pub(crate) fn swap_repo(&mut self, repo: &mut Repo<A>)
+        ensures repo { repo.new ≡ self.old.client.repo }
+        ensures indexer { KeepsIndexer self.old self.new }
+    {
+        self.client.swap_repo(repo);
     }
 
     /// Consumes the side, and returns only the indexer.

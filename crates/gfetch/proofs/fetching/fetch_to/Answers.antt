@@ -47,7 +47,7 @@ returns-clause-fetches g c =
     let same = same_start c.args.repo.now plan.specs.now plan.limit plan.ends plan.options c.in_ok-session.session c.new-side.result
     (c.new-side.ensures.repo ∙ c.replace.ensures.value) c.new-side.ensures.session c.in_ok-session.ensures.1 in
     subst (λ (r : RepoState g.row.A.Denot). FetchesOver indexes fails
-    (start_for c.args.repo.now plan.specs.now plan.limit plan.ends plan.options) input output r c.finish-fetched.result) (sym c.swap_repo.ensures)
+    (start_for c.args.repo.now plan.specs.now plan.limit plan.ends plan.options) input output r c.finish-fetched.result) (sym c.swap_repo.ensures.repo)
     (subst (λ (s : Start g.row.A.Denot). FetchesOver indexes fails s input output c.finish-fetched.new.side.client.repo c.finish-fetched.result) same
     (c.finish-fetched.ensures.fetches (start_of_side c.new-side.result) input output c.talk-driven.ensures.ends))
 
@@ -66,13 +66,13 @@ returns-clause-bound g c =
 pub returns-clause-keeps : goal.returns-clause-keeps
 returns-clause-keeps g c =
     let name =
-    sym (c.into_indexer-indexer.ensures.in_place
-    ∙ (c.finish-fetched.ensures.indexer.in_place ∙ (c.talk-driven.ensures.keeps.in_place ∙ c.new-side.ensures.in_place))) in
+    sym (c.into_indexer-indexer.ensures.in_place ∙ (c.swap_repo.ensures.indexer.in_place
+    ∙ (c.finish-fetched.ensures.indexer.in_place ∙ (c.talk-driven.ensures.keeps.in_place ∙ c.new-side.ensures.in_place)))) in
     keeps_to g.K.KeepingIndexer.keeps c.args.indexer.now c.new-side.result.indexer.now c.talk-driven.result.1.indexer.now c.indexer-1.given.0
     c.args.repo.now.graph.entries c.new-side.result.client.repo.graph.entries c.talk-driven.result.1.client.repo.graph.entries c.swap_repo.new.repo.graph.entries
     c.new-side.ensures.indexer
     (c.indexer-1.given.1 name
-    ∙ (c.into_indexer-indexer.ensures.value ∙ c.finish-fetched.ensures.indexer.value))
+    ∙ (c.into_indexer-indexer.ensures.value ∙ (c.swap_repo.ensures.indexer.value ∙ c.finish-fetched.ensures.indexer.value)))
     (ap (λ (r : RepoState g.row.A.Denot). r.graph.entries) (c.new-side.ensures.repo ∙ c.replace.ensures.value))
-    (ap (λ (r : RepoState g.row.A.Denot). r.graph.entries) c.swap_repo.ensures ∙ c.finish-fetched.ensures.graph)
+    (ap (λ (r : RepoState g.row.A.Denot). r.graph.entries) c.swap_repo.ensures.repo ∙ c.finish-fetched.ensures.graph)
     c.talk-driven.ensures.keeps.keeps_on

@@ -1,7 +1,5 @@
-use Rattle.std.proofs.Common.{IfSome, refl, subst, sym}
+use Rattle.std.proofs.Common.{refl}
 use Rattle.gfetchreply.specs.FetchReplies.{reply_of}
-use Rattle.gclientrepo.specs.Repos.{RepoState}
-use Rattle.gsession.specs.Offering.{AreOffersOf}
 use Rattle.gsession.specs.TakingReplies.{reading_for}
 use Rattle.gsession.proofs.OfferLemmas.{offers_grow}
 use Rattle.gfetch.proofs.SideLemmas.{objects_accepted, objects_ready, objects_rejected, reply_said}
@@ -11,9 +9,8 @@ pub invariant_of-self : goal.invariant_of-self
 invariant_of-self g c =
     let it = c.self.inside in
     let adds = rw c.in-Ok-Round.field-0-is at c.in-Ok-Round.ensures.round in
-    rw c.replace-walk.ensures.value
-    (subst (λ (r : RepoState g.row.A.Denot). IfSome it.walk (AreOffersOf c.accept_objects.new.self r.graph.entries)) (sym adds.2)
-    (offers_grow c.distinct_are_once.ensures it.session c.accept_objects.new.self adds.0 it.repo.graph.entries it.walk c.laws.ensures adds.1 c.self.invariant))
+    rw adds.2
+    (offers_grow c.distinct_are_once.ensures it.session c.accept_objects.new.self adds.0 it.repo.graph.entries it.walk c.laws.ensures adds.1 c.self.invariant)
 
 pub returns-in-Ok-Round-clause-accepts : goal.returns-in-Ok-Round-clause-accepts
 returns-in-Ok-Round-clause-accepts g c =
