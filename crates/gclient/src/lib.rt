@@ -43,7 +43,8 @@
 //!   read and written. The client reports a failed source exactly when the source failed.
 //! - [`send_request`] writes and flushes one request, for clients that hold a different
 //!   conversation.
-//! - Each fault has the number, the name and the text of its row (`Faults` in the specs of `gfetch`).
+//! - Each fault has the number, the name and the text of its row (`Faults` in the specs of
+//!   `gfetch`).
 //! - No call panics, overflows or reads out of bounds. A call returns if each call of its source
 //!   and its sink returns.
 //!
@@ -64,11 +65,11 @@
 //!
 //! # Dependencies
 //!
-//! The crate uses `gfetch` for the client's end of a dialogue, `gsession` for the session, and `grefs`
-//! and `gclientrepo` for refspecs and the repository. The crate uses `ghello` for the first line and
-//! the advertisement, `grequest` for requests, and `glsreply` for listed refs. The crate uses `ggrammar` and `gpkt` for messages and
-//! packets, `gfetchreply` for the limit of a pack, `ggraph` for indexers, and `gname` for object
-//! formats.
+//! The crate uses `gfetch` for the client's end of a dialogue, `gsession` for the session, and
+//! `grefs` and `gclientrepo` for refspecs and the repository. The crate uses `ghello` for the first
+//! line and the advertisement, `grequest` for requests, and `glsreply` for listed refs. The crate
+//! uses `ggrammar` and `gpkt` for messages and packets, `gfetchreply` for the limit of a pack,
+//! `ggraph` for indexers, and `gname` for object formats.
 #![tactic(auto)]
 
 mod conversation;
