@@ -21,15 +21,17 @@ use Rattle.gsession.specs.declared.taken.Taken.{Taken}
 use Rattle.gsession.specs.Laws.{EachGoesOn}
 use Rattle.gsession.specs.Requesting.{waiting_for}
 use Rattle.gsession.specs.TakingReplies.{TakesHead}
-use Rattle.gclient.specs.Conversations.{Start, begin_session, hear_advert, Converses, Fails, cannot_ask, cannot_begin, cannot_hear}
-use Rattle.gclient.specs.Conversations.{cannot_send, cannot_settle, cannot_take, no_buffer, HasFetched, FailsToAsk}
-use Rattle.gclient.specs.Conversations.{HasAsked, IsDue, request, ending, request_bytes, requests_bytes}
+use Rattle.gfetch.specs.Conversations.{Converses, Fails, cannot_ask, cannot_begin, cannot_hear}
+use Rattle.gfetch.specs.Starts.{Start, begin_session, hear_advert}
+use Rattle.gfetch.specs.Conversations.{cannot_send, cannot_settle, cannot_take, no_buffer, HasFetched, FailsToAsk}
+use Rattle.gfetch.specs.Conversations.{HasAsked, IsDue, request, ending, request_bytes, requests_bytes}
 use Rattle.gclient.specs.Laws.{NextIsFew, RoundsAreAsked, TalksAreFew, asked_in, count_of, objects_asked, AsksAtMost}
 use Rattle.gclient.specs.Laws.{EndsAreFew}
-use Rattle.gclient.specs.Turns.{AreTurns, AsksNext, ClientState, IsTurn, Takes, Turn}
-use Rattle.gclient.specs.declared.fault.FetchFault.{FetchFault}
-use Rattle.gclient.specs.declared.fetched.Fetched.{Fetched}
-use Rattle.gclient.proofs.TurnLemmas.{turn_kept, waits}
+use Rattle.gfetch.specs.Turns.{AreTurns, AsksNext, ClientState, IsTurn, Takes, Turn}
+use Rattle.gfetch.specs.declared.fault.FetchFault.{FetchFault}
+use Rattle.gfetch.specs.declared.fetched.Fetched.{Fetched}
+use Rattle.gfetch.proofs.KeptLemmas.{turn_kept}
+use Rattle.gfetch.proofs.TalkLemmas.{waits}
 use Rattle.std.specs.List.{flat_map}
 use Rattle.std.specs.Io.KnownBytes.{Appends}
 use Rattle.std.proofs.lemmas.Grind.{flat_map-append}

@@ -1,5 +1,2 @@
-pub mod StepLemmas
-pub mod TurnLemmas
-pub mod TalkLemmas
+pub mod SendLemmas
 pub mod CountLemmas
-mod ListingLemmas

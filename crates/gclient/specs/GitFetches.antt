@@ -5,10 +5,11 @@ use Rattle.gpkt.specs.Sending.{Input, Output}
 use Rattle.ghello.specs.Hello.{Hello}
 use Rattle.gobject.specs.Packs.{Indexes, IndexFails}
 use Rattle.gclientrepo.specs.Repos.{RepoState}
-use Rattle.gclient.specs.Conversations.{FetchesOver, Start}
-use Rattle.gclient.specs.declared.fault.FetchFault.{FetchFault}
-use Rattle.gclient.specs.declared.fault.FetchFault.TheVariants as fetch
-use Rattle.gclient.specs.declared.fetched.Fetched.{Fetched}
+use Rattle.gfetch.specs.Conversations.{FetchesOver}
+use Rattle.gfetch.specs.Starts.{Start}
+use Rattle.gfetch.specs.declared.fault.FetchFault.{FetchFault}
+use Rattle.gfetch.specs.declared.fault.FetchFault.TheVariants as fetch
+use Rattle.gfetch.specs.declared.fetched.Fetched.{Fetched}
 use Rattle.gclient.specs.Greetings.{CannotGreet, HasGreeted}
 
 module _ {A : Type 0} (indexes : Indexes A) (index_fails : IndexFails) (start : Start A) (hello : Hello) where

@@ -1,9 +1,9 @@
 -- The first line of a `git://` connection, as the client writes it (gitprotocol-pack(5), "Git Transport").
-use Rattle.std.specs.Prelude.{false, Option}
+use Rattle.std.specs.Prelude.{false, Option, Result, Ok, Err}
 use Rattle.gpkt.specs.Packets.{Bytes, canonical_all}
 use Rattle.gpkt.specs.Sending.{Input, Output, IsUnread, Passes}
 use Rattle.ghello.specs.Hello.{Hello, canonical_hello}
-use Rattle.gclient.specs.Conversations.{FailsToSend}
+use Rattle.gfetch.specs.Conversations.{FailsToSend}
 
 -- the bytes of the first line
 abbrev pub hello_bytes : Hello → Bytes
@@ -40,3 +40,8 @@ pub record HasGreeted (hello : Hello) (output : Output) (Rest : Output → Type 
 pub record CannotGreet (hello : Hello) (input : Input) (output : Output) : Type 0 where
   pub fails : FailsToSend output (hello_bytes hello)
   pub unread : IsUnread input
+
+-- the effect of a call that tries to write and flush these bytes
+abbrev pub HasPassed : {E : Type 0} → Output → Result (Unit {0}) E → Bytes → Type 0
+HasPassed output (Ok done) bytes = Passes output bytes
+HasPassed output (Err failed) bytes = FailsToSend output bytes

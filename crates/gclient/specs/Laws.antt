@@ -11,10 +11,11 @@ use Rattle.gobject.specs.Packs.{Indexes, IndexFails}
 use Rattle.gclientrepo.specs.Repos.{IsConnectedRepo, RepoState}
 use Rattle.grequest.specs.Asked.{Asked, Fetches}
 use Rattle.gsession.specs.Sessions.{SessionState, max_specs, tips_of}
-use Rattle.gclient.specs.Conversations.{FetchesOver, Start, hear_advert, request_bytes}
-use Rattle.gclient.specs.Turns.{AreTurns, AsksNext, ClientState, Turn}
-use Rattle.gclient.specs.declared.fault.FetchFault.{FetchFault}
-use Rattle.gclient.specs.declared.fetched.Fetched.{Fetched}
+use Rattle.gfetch.specs.Conversations.{FetchesOver, request_bytes}
+use Rattle.gfetch.specs.Starts.{Start, hear_advert}
+use Rattle.gfetch.specs.Turns.{AreTurns, AsksNext, ClientState, Turn}
+use Rattle.gfetch.specs.declared.fault.FetchFault.{FetchFault}
+use Rattle.gfetch.specs.declared.fetched.Fetched.{Fetched}
 
 -- ---- the number of requests for objects
 

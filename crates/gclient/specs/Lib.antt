@@ -1,11 +1,11 @@
-pub mod Turns
-pub mod Conversations
+pub use Rattle.gfetch.specs.Turns
+pub use Rattle.gfetch.specs.Starts
+pub use Rattle.gfetch.specs.Conversations
 pub mod Greetings
 pub mod GitFetches
 pub mod Listings
 pub mod Laws
-pub mod Faults
-pub mod steps
+pub use Rattle.gfetch.specs.Faults
 pub use Rattle.gsession.specs.Sessions
 pub use Rattle.gsession.specs.Asking
 pub use Rattle.gsession.specs.Requesting

@@ -8,14 +8,12 @@ ghost use Rattle.gclientrepo.specs.Repos.{IsConnectedRepo};
 ghost use Rattle.gclientrepo.specs.Settling.{Settles};
 ghost use Rattle.gsession.specs.Keeping.{KeepsOn};
 ghost use Rattle.gsession.specs.Sessions.{tips_of};
-ghost use Rattle.gclient.specs.Conversations.{start_for};
+ghost use Rattle.gfetch.specs.Starts.{start_for};
 ghost use Rattle.gclient.specs.GitFetches.{FetchesGit};
 
-use crate::conversation::fetch_over_with;
-use crate::fault::FetchFault;
-use crate::fetched::Fetched;
 use crate::greeting::greet;
 use gclientrepo::Repo;
+use gfetch::{FetchFault, Fetched, fetch_over_with};
 use gfetchreply::StreamLimit;
 use ggrammar::Ends;
 use ggraph::KeepingIndexer;

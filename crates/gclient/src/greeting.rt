@@ -2,7 +2,7 @@
 
 ghost use Rattle.std.specs.Prelude.{◌≡◌, false};
 ghost use Rattle.gpkt.specs.Sending.{output_of};
-ghost use Rattle.gclient.specs.Conversations.{HasPassed};
+ghost use Rattle.gclient.specs.Greetings.{HasPassed};
 ghost use Rattle.gclient.specs.Greetings.{hello_bytes};
 
 use ghello::{Hello, write_hello};

@@ -5,8 +5,9 @@
 //!
 //! # Proved
 //!
-//! - [`fetch_over`] holds a conversation (`specs/Conversations.antt`, `Turns.antt`). The bytes
-//!   alone determine the advertisement and the replies, however the bytes are split into pieces.
+//! - [`fetch_over`] holds a conversation (`Conversations` and `Turns` in the specs of `gfetch`). The
+//!   bytes alone determine the advertisement and the replies, however the bytes are split into
+//!   pieces.
 //!   `fetch_over` reads nothing after the last reply. The client writes each request of the session
 //!   in its canonical encoding, and a lone flush packet after the last reply. The client flushes
 //!   each request before it reads the reply. At the end `fetch_over` updates the local refs.
@@ -42,7 +43,8 @@
 //!   read and written. The client reports a failed source exactly when the source failed.
 //! - [`send_request`] writes and flushes one request, for clients that hold a different
 //!   conversation.
-//! - Each fault has the number, the name and the text of its row in `specs/Faults.antt`.
+//! - Each fault has the number, the name and the text of its row (`Faults` in the specs of
+//!   `gfetch`).
 //! - No call panics, overflows or reads out of bounds. A call returns if each call of its source
 //!   and its sink returns.
 //!
@@ -63,30 +65,26 @@
 //!
 //! # Dependencies
 //!
-//! The crate uses `gsession` for the session, and `grefs` and `gclientrepo` for refspecs and the
-//! repository. The crate uses `ghello` for the first line and the advertisement, `grequest` for
-//! requests, and `glsreply` for listed refs. The crate uses `ggrammar` and `gpkt` for messages and
-//! packets, `gfetchreply` for the limit of a pack, `ggraph` for indexers, and `gname` for object
-//! formats.
+//! The crate uses `gfetch` for the client's end of a dialogue, `gsession` for the session, and
+//! `grefs` and `gclientrepo` for refspecs and the repository. The crate uses `ghello` for the first
+//! line and the advertisement, `grequest` for requests, and `glsreply` for listed refs. The crate
+//! uses `ggrammar` and `gpkt` for messages and packets, `gfetchreply` for the limit of a pack,
+//! `ggraph` for indexers, and `gname` for object formats.
 #![tactic(auto)]
 
 mod conversation;
-mod fault;
-mod fetched;
 mod git_transport;
 mod greeting;
 pub mod laws;
 mod listing;
 mod send;
-mod turn;
 
-pub use crate::conversation::{fetch_over, fetch_over_with};
-pub use crate::fault::FetchFault;
-pub use crate::fetched::Fetched;
+pub use crate::conversation::fetch_over;
 pub use crate::git_transport::{GitFetch, fetch_git};
-pub use crate::listing::{list_git, list_over};
+pub use crate::listing::list_git;
 pub use crate::send::send_request;
 pub use gclientrepo::{Ask, Asks, RefUpdate, Repo, RepoFault, compat};
+pub use gfetch::{FetchFault, Fetched, fetch_over_with, list_over};
 pub use grefs::{Spec, SpecFault};
 pub use gsession::{
     ClientFault, FetchPlan, LsTaken, MAX_SPECS, PackOptions, Session, Settled, Taken,

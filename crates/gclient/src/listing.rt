@@ -1,19 +1,15 @@
-//! The listing of a server's refs, with or without a first line.
+//! The listing of a server's refs, with a first line.
 
-ghost use Rattle.std.specs.Prelude.{◌≡◌, false, OnOk};
+ghost use Rattle.std.specs.Prelude.{◌≡◌};
 ghost use Rattle.gpkt.specs.Sending.{input_of, output_of};
-ghost use Rattle.gclient.specs.Listings.{Lists, ListsGit};
-ghost use Rattle.gclient.specs.steps.Listings.{FitsFormat, HearsServer};
+ghost use Rattle.gclient.specs.Listings.{ListsGit};
 
-use crate::fault::FetchFault;
 use crate::greeting::greet;
-use crate::send::send_request;
-use ggrammar::{Ends, MessageFault};
-use ghello::{Advert, Hello, read_advert};
-use glsreply::{LsReply, read_ls_reply_in};
-use gname::Format;
-use gpkt::{PacketBuffer, PacketReader, PacketWriter, Sink, Source};
-use grequest::{LsRefsFlag, LsRefsRequest, Request};
+use gfetch::{FetchFault, list_over};
+use ghello::Hello;
+use glsreply::LsReply;
+use gpkt::{Sink, Source};
+use grequest::LsRefsRequest;
 use std::alloc::Allocator;
 
 /// Lists the refs of a server (gitprotocol-pack(5), "Git Transport"; gitprotocol-v2(5), "ls-refs").
@@ -48,91 +44,4 @@ pub fn list_git<S: Source, W: Sink, A: Allocator + Copy>(
         Ok(()) => list_over(source, sink, asked, alloc),
         Err(_) => Err(FetchFault::WriteFailed),
     }
-}
-
-/// Lists the refs of a server like [`list_git`], but without a first line. Fails like `list_git`.
-pub fn list_over<S: Source, W: Sink, A: Allocator + Copy>(
-    source: &mut S,
-    sink: &mut W,
-    asked: LsRefsRequest<A>,
-    alloc: A,
-) -> Result<LsReply<A>, FetchFault<A>>
-    ensures lists { Lists asked.asked
-        (input_of S.remaining S.is_down source.old source.new)
-        (output_of W.contents W.passed_on W.is_down sink.old sink.new) result }
-    ensures source_loans { S.loans source.new ≡ S.loans source.old }
-    ensures sink_loans { W.loans sink.new ≡ W.loans sink.old }
-{
-    let buffer = match PacketBuffer::new(alloc) {
-        Ok(buffer) => buffer,
-        Err(_) => return Err(FetchFault::NoBuffer),
-    };
-    let mut reader = PacketReader::with_buffer(buffer, source);
-    let mut writer = PacketWriter::new(sink);
-    let listed = list(&mut reader, &mut writer, asked, alloc);
-    let _source = reader.into_inner();
-    let _sink = writer.into_inner();
-    listed
-}
-
-// Reads the advertisement, requests the refs, reads the reply, and ends the conversation.
-fn list<S: Source, W: Sink, A: Allocator + Copy>(
-    reader: &mut PacketReader<S, A>,
-    writer: &mut PacketWriter<W>,
-    mut asked: LsRefsRequest<A>,
-    alloc: A,
-) -> Result<LsReply<A>, FetchFault<A>>
-    requires reader { reader.old.failed ≡ false }
-    requires writer { writer.old.failed ≡ false }
-    ensures lists { Lists asked.asked
-        (input_of S.remaining S.is_down reader.old.source reader.new.source)
-        (output_of W.contents W.passed_on W.is_down writer.old.sink writer.new.sink) result }
-    ensures source_loans { S.loans reader.new.source ≡ S.loans reader.old.source }
-    ensures sink_loans { W.loans writer.new.sink ≡ W.loans writer.old.sink }
-{
-    let heard = hear_server(reader, alloc)?;
-    asked.set(LsRefsFlag::Unborn, heard.tells_unborn);
-    send_request(&Request::Ls(asked), heard.format, writer)?;
-    let reply = read_ls_reply_in(reader, heard.format, Ends::Plain, alloc)?;
-    send_request(&Request::<A>::Empty, heard.format, writer)?;
-    Ok(reply)
-}
-
-// The parts of the advertisement that a listing needs.
-#[derive(Drop)]
-struct Heard {
-    // The object format of the server.
-    format: Format,
-    // Whether the server offers to report an unborn `HEAD`.
-    tells_unborn: bool,
-}
-
-// Reads the server's advertisement, and returns the parts that a listing needs. Fails if the client
-// does not support the server.
-fn hear_server<S: Source, A: Allocator + Copy>(
-    reader: &mut PacketReader<S, A>,
-    alloc: A,
-) -> Result<Heard, MessageFault>
-    requires { reader.old.failed ≡ false }
-    ensures hears { HearsServer (input_of S.remaining S.is_down reader.old.source
-        reader.new.source) result }
-    ensures goes_on { OnOk result (reader.new.failed ≡ false) }
-    ensures loans { S.loans reader.new.source ≡ S.loans reader.old.source }
-{
-    let advert = read_advert(reader, alloc)?;
-    let format = format_in(&advert)?;
-    let tells_unborn = advert.has_feature(b"ls-refs", b"unborn");
-    Ok(Heard {
-        format,
-        tells_unborn,
-    })
-}
-
-// Returns the object format of the server. Fails if the client does not support the server.
-fn format_in<A: Allocator + Copy>(advert: &Advert<A>) -> Result<Format, MessageFault>
-    ensures { FitsFormat advert.now result }
-{
-    let format = advert.format().unwrap_or(Format::Sha1);
-    advert.check_in(format)?;
-    Ok(format)
 }

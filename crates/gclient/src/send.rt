@@ -3,7 +3,8 @@
 ghost use Rattle.std.specs.Prelude.{◌≡◌, false, OnOk};
 ghost use Rattle.gpkt.specs.Sending.{output_of};
 ghost use Rattle.grequest.specs.RequestValues.{IsOfFormat, asked_by_request};
-ghost use Rattle.gclient.specs.Conversations.{request_bytes, HasPassed};
+ghost use Rattle.gfetch.specs.Conversations.{request_bytes};
+ghost use Rattle.gclient.specs.Greetings.{HasPassed};
 
 use gname::Format;
 use gpkt::laws::writes_join;

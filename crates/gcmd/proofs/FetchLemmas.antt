@@ -17,7 +17,7 @@ use Rattle.grefs.specs.declared.head.Head.{Head}
 use Rattle.gclientrepo.specs.Changes.{Opens}
 use Rattle.gclientrepo.specs.declared.fault.RepoFault.{RepoFault}
 use Rattle.gsession.specs.declared.fault.ClientFault.TheVariants as client
-use Rattle.gclient.specs.declared.fault.FetchFault.TheVariants as fetch
+use Rattle.gfetch.specs.declared.fault.FetchFault.TheVariants as fetch
 use Rattle.gcmd.specs.Fetching.{NamesClient, RefusesClient, no_head}
 use Rattle.gcmd.specs.declared.fault.ProgramFault.{ProgramFault}
 use Rattle.gcmd.specs.declared.fault.ProgramFault.TheVariants as program

@@ -28,9 +28,9 @@ use Rattle.gclientrepo.specs.declared.fault.RepoFault.TheVariants as repo
 use Rattle.gsession.specs.Faults.{client_fault_row}
 use Rattle.gsession.specs.declared.fault.ClientFault.{ClientFault}
 use Rattle.gsession.specs.declared.fault.ClientFault.TheVariants as client
-use Rattle.gclient.specs.Faults.{fetch_fault_row, fetch_fault_text}
-use Rattle.gclient.specs.declared.fault.FetchFault.{FetchFault}
-use Rattle.gclient.specs.declared.fault.FetchFault.TheVariants as fetch
+use Rattle.gfetch.specs.Faults.{fetch_fault_row, fetch_fault_text}
+use Rattle.gfetch.specs.declared.fault.FetchFault.{FetchFault}
+use Rattle.gfetch.specs.declared.fault.FetchFault.TheVariants as fetch
 use Rattle.gcmd.specs.declared.fault.ProgramFault.{ProgramFault}
 use Rattle.gcmd.specs.declared.fault.ProgramFault.TheVariants as program
 

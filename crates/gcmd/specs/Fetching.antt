@@ -22,10 +22,11 @@ use Rattle.gclientrepo.specs.Changes.{Opens}
 use Rattle.gclientrepo.specs.Repos.{IsConnectedRepo, RepoState}
 use Rattle.gclientrepo.specs.Settling.{Settles}
 use Rattle.gsession.specs.declared.fault.ClientFault.TheVariants as client
-use Rattle.gclient.specs.Conversations.{FetchesOver, start_of}
-use Rattle.gclient.specs.declared.fault.FetchFault.{FetchFault}
-use Rattle.gclient.specs.declared.fault.FetchFault.TheVariants as fetch
-use Rattle.gclient.specs.declared.fetched.Fetched.{Fetched}
+use Rattle.gfetch.specs.Conversations.{FetchesOver}
+use Rattle.gfetch.specs.Starts.{start_of}
+use Rattle.gfetch.specs.declared.fault.FetchFault.{FetchFault}
+use Rattle.gfetch.specs.declared.fault.FetchFault.TheVariants as fetch
+use Rattle.gfetch.specs.declared.fetched.Fetched.{Fetched}
 use Rattle.gcmd.specs.Outputs.{BreaksOff}
 use Rattle.gcmd.specs.Programs.{ProgramOutcome}
 use Rattle.gcmd.specs.Reporting.{fetch_report}

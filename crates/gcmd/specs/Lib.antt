@@ -30,4 +30,4 @@ pub use Rattle.grefs.specs.Refspecs
 pub use Rattle.gclientrepo.specs.Repos
 pub use Rattle.gclientrepo.specs.Changes
 pub use Rattle.gclientrepo.specs.Settling
-pub use Rattle.gclient.specs.Turns
+pub use Rattle.gfetch.specs.Turns

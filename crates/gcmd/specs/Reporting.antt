@@ -6,7 +6,7 @@ use Rattle.gpkt.specs.Packets.{Bytes}
 use Rattle.gclientrepo.specs.declared.ask.Ask.{Ask}
 use Rattle.gclientrepo.specs.declared.ask.RefUpdate.{RefUpdate}
 use Rattle.gclientrepo.specs.declared.ask.RefUpdate.TheVariants.{Moved, NotForward, Same}
-use Rattle.gclient.specs.declared.fetched.Fetched.{Fetched}
+use Rattle.gfetch.specs.declared.fetched.Fetched.{Fetched}
 
 -- the line for the update of a ref to this id
 abbrev pub update_text : (name : Name) (id : Id) → RefUpdate → Bytes

@@ -10,9 +10,10 @@ use Rattle.glockfile.specs.declared.storage.Lockfile.{Lockfile}
 use Rattle.glockfile.specs.declared.storage.Lockfile.TheVariants.{Absent}
 use Rattle.glockfile.specs.declared.storage.StorageFault.{StorageFault}
 use Rattle.glockfile.specs.declared.storage.StorageFault.TheVariants as storage
-use Rattle.gclient.specs.Conversations.{FetchesOver, start_of}
-use Rattle.gclient.specs.declared.fault.FetchFault.{FetchFault}
-use Rattle.gclient.specs.declared.fetched.Fetched.{Fetched}
+use Rattle.gfetch.specs.Conversations.{FetchesOver}
+use Rattle.gfetch.specs.Starts.{start_of}
+use Rattle.gfetch.specs.declared.fault.FetchFault.{FetchFault}
+use Rattle.gfetch.specs.declared.fetched.Fetched.{Fetched}
 use Rattle.gclientrepo.specs.Repos.{RepoState}
 use Rattle.grefs.specs.Refspecs.{Refspec}
 use Rattle.gcmd.specs.Fetching.{IsFetchedInto, NamesClient, RefusesClient, Reports, plain_index_fails, plain_indexes}

@@ -2,7 +2,7 @@
 
 ghost use Rattle.std.specs.Prelude.{◌≡◌, Some};
 ghost use Rattle.gcmd.specs.Faults.{printed_of, program_fault_text};
-ghost use Rattle.gclient.specs.declared.fault.FetchFault.TheVariants.{Client};
+ghost use Rattle.gfetch.specs.declared.fault.FetchFault.TheVariants.{Client};
 ghost use Rattle.gcmd.specs.declared.fault.ProgramFault.TheVariants as program;
 ghost use Rattle.gsession.specs.declared.fault.ClientFault.TheVariants.{Repo};
 

@@ -43,7 +43,7 @@ use Rattle.gdialogue.specs.Running.{BreaksBy, HasRun, Leaves, Receives}
 use Rattle.gdialogue.proofs.Receiving.{RefusesAt, reads_heard, reads_parts, refuses_at}
 use Rattle.gfetch.specs.Conversations.{Converses, FailsToAsk, HasAsked, IsDue, IsLeft, Mismatches, RefusesToRead, cannot_ask, cannot_hear, cannot_send, cannot_take, ending, request, request_bytes, requests_bytes, talk_bytes}
 use Rattle.gfetch.specs.Conversations as conversation
-use Rattle.gfetch.specs.Fetching.{AcceptsReply, AnswersAfter, DeclinesReply, AnswersMessage, Fails, GoesOn, IsDeclined, IsFresh, KeepsObjects, MismatchesAdvert, OpensFresh, RefusesMessage, client_of, start_of_side}
+use Rattle.gfetch.specs.Fetching.{AcceptsReply, AnswersAfter, DeclinesReply, AnswersMessage, Fails, GoesOn, IsDeclined, IsFresh, KeepsObjects, MismatchesAdvert, OpensFresh, RefusesMessage, start_of_side}
 use Rattle.gfetch.specs.Heard.{brings_after, judge_after, session_brings, session_judge}
 use Rattle.gfetch.specs.Laws.{HasTalked, IsTalk, asked_packets, reply_packets}
 use Rattle.gfetch.specs.Laws as talk
@@ -185,7 +185,7 @@ module _ {A : Type 0} (indexes : Indexes A) (index_fails : IndexFails) (g : List
 -- ---- the outcome of a dialogue
 
 both_answers : {A K : Type 0} (indexes : Indexes A) (index_fails : IndexFails) (keeps : K → Id → Type 0) (g : List (Entry A)) (last : SessionState A)
-    (asked : Asked) (mid now : ClientSide A K) (lines reply : List Packet) (goes : Bool) → Requests last g mid.session (Ok asked)
+    (asked : Asked) (mid now : ClientSide A K) (lines reply : List Packet) (goes : Bool) → Requests last g mid.client.session (Ok asked)
     → AnswersAfter indexes index_fails keeps (Some asked) mid now lines reply goes
     → AcceptsReply indexes index_fails asked mid now lines reply goes ⊎ DeclinesReply indexes index_fails asked mid now lines reply goes
 both_answers indexes index_fails keeps g last Empty mid now lines reply goes made answers = absurd made.1.1
@@ -194,13 +194,13 @@ both_answers indexes index_fails keeps g last (Fetches asked) mid now lines repl
 
 module _ {A K : Type 0} (indexes : Indexes A) (index_fails : IndexFails) (keeps : K → Id → Type 0) (first : ClientSide A K) where
   abbrev OwnFormat : Format
-  OwnFormat = first.repo.graph.format
+  OwnFormat = first.client.repo.graph.format
 
   abbrev OwnStart : Start A
   OwnStart = start_of_side first
 
   abbrev SideReplied : List Packet → Option Stop → List Packet → List Packet → Bool → ClientSide A K → Type 0
-  SideReplied = HasReplied (λ (side : ClientSide A K). session_judge side.session) (λ (side : ClientSide A K). session_brings side.session) OpensFresh
+  SideReplied = HasReplied (λ (side : ClientSide A K). session_judge side.client.session) (λ (side : ClientSide A K). session_brings side.client.session) OpensFresh
       (AnswersMessage indexes index_fails keeps) RefusesMessage first
 
   -- the client has completed turns, and is in the state `last`
@@ -214,7 +214,7 @@ module _ {A K : Type 0} (indexes : Indexes A) (index_fails : IndexFails) (keeps 
     pub all_said : said ≡ asked_packets OwnFormat turns
     pub own : last.session.format ≡ OwnFormat
 
-  completed_advert : IsFresh first → (lines : List Packet) (capabilities : List Capability) → Advertises first.session.format lines capabilities
+  completed_advert : IsFresh first → (lines : List Packet) (capabilities : List Capability) → Advertises first.client.session.format lines capabilities
       → HasCompleted lines [] (hear_advert OwnStart capabilities)
   completed_advert fresh lines capabilities advertises = record {
     packets = lines;
@@ -232,9 +232,9 @@ module _ {A K : Type 0} (indexes : Indexes A) (index_fails : IndexFails) (keeps 
   completed_reply front said lines reply goes mid now h a =
       let turn : Turn = record { asked = h.asked; reply = lines } in
       let is : IsTurn indexes index_fails h.last turn a.now = record {
-        waiting = mid.session;
+        waiting = mid.client.session;
         asks = h.asks;
-        takes = takes_same indexes index_fails mid.session h.asked (client_of mid) h.last a.now lines h.repo h.unborn a.takes;
+        takes = takes_same indexes index_fails mid.client.session h.asked mid.client h.last a.now lines h.repo h.unborn a.takes;
       } in
       record {
         packets = h.packets;
@@ -248,7 +248,7 @@ module _ {A K : Type 0} (indexes : Indexes A) (index_fails : IndexFails) (keeps 
         all_said =
             h.all_said
             ∙ sym (flat_map-append (λ (t : Turn). canonical_request OwnFormat t.asked) h.turns (turn ∷ []) ∙ ap (λ (l : List Packet). asked_packets OwnFormat h.turns ++ l) (append-nil (canonical_request OwnFormat h.asked)));
-        own = format_takes indexes index_fails mid.session h.asked (client_of mid) a.now lines a.takes ∙ h.format;
+        own = format_takes indexes index_fails mid.client.session h.asked mid.client a.now lines a.takes ∙ h.format;
       }
 
   pub data Outcome (now : ClientSide A K) (heard : List Packet) (stopped : Option Stop) (earlier reply : List Packet) (goes : Bool) : Type 0 where
@@ -257,13 +257,13 @@ module _ {A K : Type 0} (indexes : Indexes A) (index_fails : IndexFails) (keeps 
         → Outcome now heard stopped earlier reply goes
     -- a packet of the message was unreadable or rejected
     refused : (mid : ClientSide A K) (front lines : List Packet) (cause : MessageFault) → IsTalk indexes index_fails keeps first front earlier mid
-        → heard ≡ front ++ lines → IsRefused (session_judge mid.session) (session_brings mid.session) lines stopped cause
+        → heard ≡ front ++ lines → IsRefused (session_judge mid.client.session) (session_brings mid.client.session) lines stopped cause
         → Fails mid now (client.Message cause) reply goes → Outcome now heard stopped earlier reply goes
     -- the client does not support the server
     mismatched : MismatchesAdvert first now heard reply goes → earlier ≡ [] → stopped ≡ None → Outcome now heard stopped earlier reply goes
     -- the client rejected the content of a complete reply
     declined : (mid : ClientSide A K) (front lines : List Packet) (cause : ClientFault A) (h : HasTalked indexes index_fails keeps first front earlier mid)
-        → heard ≡ front ++ lines → stopped ≡ None → IsWhole (session_judge mid.session) lines → IsDeclined indexes index_fails mid.session h.asked mid.repo lines cause
+        → heard ≡ front ++ lines → stopped ≡ None → IsWhole (session_judge mid.client.session) lines → IsDeclined indexes index_fails mid.client.session h.asked mid.client.repo lines cause
         → Fails mid now cause reply goes → Outcome now heard stopped earlier reply goes
 
   of_first : IsFresh first → (lines reply : List Packet) (goes : Bool) (now : ClientSide A K) → AnswersMessage indexes index_fails keeps first lines reply goes now
@@ -277,11 +277,11 @@ module _ {A K : Type 0} (indexes : Indexes A) (index_fails : IndexFails) (keeps 
       ]
 
   of_reply : (front said lines reply : List Packet) (goes : Bool) (mid now : ClientSide A K) → HasTalked indexes index_fails keeps first front said mid
-      → IsWhole (session_judge mid.session) lines → AnswersMessage indexes index_fails keeps mid lines reply goes now
+      → IsWhole (session_judge mid.client.session) lines → AnswersMessage indexes index_fails keeps mid lines reply goes now
       → Outcome now (front ++ lines) None said reply goes
   of_reply front said lines reply goes mid now h whole answers =
       let g = h.last.repo.graph.entries in
-      let opened = waits g h.last.session mid.session h.asked h.asks in
+      let opened = waits g h.last.session mid.client.session h.asked h.asks in
       elim (both_answers indexes index_fails keeps g h.last.session h.asked mid now lines reply goes h.asks
       (subst (λ (p : Option Asked). AnswersAfter indexes index_fails keeps p mid now lines reply goes) opened answers.answers)) as (λ _. Outcome now (front ++ lines) None said reply goes) [
         | inl a ↦ next a.now (completed_reply front said lines reply goes mid now h a) refl (subst (λ (f : Option (ClientFault A)). GoesOn a.now f now reply goes) h.fault a.goes_on)
@@ -289,7 +289,7 @@ module _ {A K : Type 0} (indexes : Indexes A) (index_fails : IndexFails) (keeps 
       ]
 
   of_answer : (front said lines reply : List Packet) (goes : Bool) (mid now : ClientSide A K) → IsTalk indexes index_fails keeps first front said mid
-      → IsWhole (session_judge mid.session) lines → AnswersMessage indexes index_fails keeps mid lines reply goes now
+      → IsWhole (session_judge mid.client.session) lines → AnswersMessage indexes index_fails keeps mid lines reply goes now
       → Outcome now (front ++ lines) None said reply goes
   of_answer front said lines reply goes mid now (talk.IsTalk.begun fresh) whole answers = of_first fresh lines reply goes now answers
   of_answer front said lines reply goes mid now (talk.IsTalk.talked so_far so_said there fresh h) whole answers =
@@ -344,13 +344,13 @@ module _ {A K : Type 0} (indexes : Indexes A) (index_fails : IndexFails) (keeps 
     untaken_reply : (front said lines : List Packet) (stopped : Option Stop) (mid now : ClientSide A K) (cause : ClientFault A) (goes : Bool) (reply : List Packet)
         → (h : HasTalked indexes index_fails keeps first front said mid) → Receives (front ++ lines) stopped input.read input.is_down
         → ((between : Option Bytes) (rest : Bytes) (partial : Bytes) → Consumes between input.read.new rest → Spelt lines partial rest → Leaves stopped partial input.read.new input.is_down
-        → IsUntaken indexes index_fails mid.session h.asked h.last.repo (record { old = between; new = input.read.new }) cause × FitsSource input.is_down cause)
+        → IsUntaken indexes index_fails mid.client.session h.asked h.last.repo (record { old = between; new = input.read.new }) cause × FitsSource input.is_down cause)
         → Passes output (requests_bytes OwnFormat h.turns ++ request_bytes OwnFormat h.asked)
-        → Fails mid now cause reply goes → FailsSo now.repo (fetch_fault.Client cause)
+        → Fails mid now cause reply goes → FailsSo now.client.repo (fetch_fault.Client cause)
     untaken_reply front said lines stopped mid now cause goes reply h r untaken passed fails =
         let p = reads_parts input.read r.more r.partial front lines r.consumed r.spelt in
         let u = untaken p.0 p.1 r.partial p.3 p.4 r.leaves in
-        cannot_take h.turns h.last h.asked mid.session cause h.asks
+        cannot_take h.turns h.last h.asked mid.client.session cause h.asks
         (record {
           few = fresh.few;
           packets = h.packets;
@@ -404,41 +404,41 @@ module _ {A K : Type 0} (indexes : Indexes A) (index_fails : IndexFails) (keeps 
       -- a packet of a message was unreadable or rejected
       refused_ends : (front lines : List Packet) (stopped : Option Stop) (mid now : ClientSide A K) (cause : MessageFault) (goes : Bool)
           → (said : List Packet) → earlier ≡ said → IsTalk indexes index_fails keeps first front said mid → Receives (front ++ lines) stopped input.read input.is_down
-          → IsRefused (session_judge mid.session) (session_brings mid.session) lines stopped cause → Fails mid now (client.Message cause) reply goes
-          → FailsSo now.repo (fetch_fault.Client (client.Message cause))
+          → IsRefused (session_judge mid.client.session) (session_brings mid.client.session) lines stopped cause → Fails mid now (client.Message cause) reply goes
+          → FailsSo now.client.repo (fetch_fault.Client (client.Message cause))
       refused_ends front lines stopped mid now cause goes said same (talk.IsTalk.begun begun) r is fails =
-          let advert_refused = subst (λ (p : Option Asked). IsRefused (judge_after first.session p) (brings_after first.session p) lines stopped cause) (pending_is indexes index_fails keeps first fresh) is in
+          let advert_refused = subst (λ (p : Option Asked). IsRefused (judge_after first.client.session p) (brings_after first.client.session p) lines stopped cause) (pending_is indexes index_fails keeps first fresh) is in
           let a = refuses_at advert.judge advert.brings (endings.laws advert.judge) endings.advert input.read r.more r.partial lines stopped cause input.is_down r.consumed r.spelt r.leaves advert_refused in
           cannot_hear cause fresh.few (inl (record { front = a.front; refused = a.refused; source = a.source })) (none_sent same fails.all) fails.repo
       refused_ends front lines stopped mid now cause goes said same (talk.IsTalk.talked so_far so_said there begun h) r is fails =
           let g = h.last.repo.graph.entries in
-          let opened = waits g h.last.session there.session h.asked h.asks in
-          let reply_refused = subst (λ (p : Option Asked). IsRefused (judge_after there.session p) (brings_after there.session p) lines stopped cause) opened is in
+          let opened = waits g h.last.session there.client.session h.asked h.asks in
+          let reply_refused = subst (λ (p : Option Asked). IsRefused (judge_after there.client.session p) (brings_after there.client.session p) lines stopped cause) opened is in
           untaken_reply so_far so_said lines stopped there now (client.Message cause) goes reply h r
           (λ between rest partial consumed spelt leaves.
-          let a = refuses_at (judge_after there.session (Some h.asked)) (brings_after there.session (Some h.asked)) (endings.laws _) (endings_after endings there.session (Some h.asked))
+          let a = refuses_at (judge_after there.client.session (Some h.asked)) (brings_after there.client.session (Some h.asked)) (endings.laws _) (endings_after endings there.client.session (Some h.asked))
           (record { old = between; new = input.read.new }) rest partial lines stopped cause input.is_down consumed spelt leaves reply_refused in
-          (untaken_refused indexes index_fails g h.last.session there.session h.last.repo (record { old = between; new = input.read.new }) h.asked input.is_down cause h.asks opened a, a.source))
+          (untaken_refused indexes index_fails g h.last.session there.client.session h.last.repo (record { old = between; new = input.read.new }) h.asked input.is_down cause h.asks opened a, a.source))
           (open_sent h.turns h.asked (same ∙ h.all_said) fails.all) fails
 
       -- the content of a complete reply was rejected
       declined_ends : (front lines : List Packet) (mid now : ClientSide A K) (cause : ClientFault A) (goes : Bool)
           → (h : HasTalked indexes index_fails keeps first front earlier mid) → Receives (front ++ lines) None input.read input.is_down
-          → IsWhole (session_judge mid.session) lines → IsDeclined indexes index_fails mid.session h.asked mid.repo lines cause → Fails mid now cause reply goes
-          → FailsSo now.repo (fetch_fault.Client cause)
+          → IsWhole (session_judge mid.client.session) lines → IsDeclined indexes index_fails mid.client.session h.asked mid.client.repo lines cause → Fails mid now cause reply goes
+          → FailsSo now.client.repo (fetch_fault.Client cause)
       declined_ends front lines mid now cause goes h r whole is fails =
           let g = h.last.repo.graph.entries in
-          let opened = waits g h.last.session mid.session h.asked h.asks in
-          let whole_reply = subst (λ (p : Option Asked). IsWhole (judge_after mid.session p) lines) opened whole in
+          let opened = waits g h.last.session mid.client.session h.asked h.asks in
+          let whole_reply = subst (λ (p : Option Asked). IsWhole (judge_after mid.client.session p) lines) opened whole in
           untaken_reply front earlier lines None mid now cause goes reply h r
           (λ between rest partial consumed spelt leaves.
-          untaken_declined indexes index_fails g h.last.session mid.session h.last.repo (record { old = between; new = input.read.new }) h.asked input.is_down lines cause h.asks opened
+          untaken_declined indexes index_fails g h.last.session mid.client.session h.last.repo (record { old = between; new = input.read.new }) h.asked input.is_down lines cause h.asks opened
           (reads_heard (record { old = between; new = input.read.new }) rest partial lines consumed spelt (leaves.clean refl)) whole_reply
-          (subst (λ (state : RepoState A). IsDeclined indexes index_fails mid.session h.asked state lines cause) h.repo is) leaves.source)
+          (subst (λ (state : RepoState A). IsDeclined indexes index_fails mid.client.session h.asked state lines cause) h.repo is) leaves.source)
           (open_sent h.turns h.asked h.all_said fails.all) fails
 
       mismatched_ends : (heard : List Packet) (stopped : Option Stop) (now : ClientSide A K) (goes : Bool) → (m : MismatchesAdvert first now heard reply goes) → earlier ≡ [] → stopped ≡ None
-          → Receives heard stopped input.read input.is_down → FailsSo now.repo (fetch_fault.Client (client.Message m.cause))
+          → Receives heard stopped input.read input.is_down → FailsSo now.client.repo (fetch_fault.Client (client.Message m.cause))
       mismatched_ends heard stopped now goes m nothing none r =
           let up = subst (λ (s : Option Stop). LeavesSource s input.read.new input.is_down) none r.leaves.source in
           let format = format_is indexes index_fails keeps first fresh in
@@ -468,7 +468,7 @@ module _ {A K : Type 0} (indexes : Indexes A) (index_fails : IndexFails) (keeps 
           })
       next_ends heard stopped now last done none (inr (inr lacks)) r =
           subst (EndsAs indexes index_fails OwnStart input output now) (sym lacks.fault)
-          (cannot_ask done.turns last now.session (converses_left heard earlier stopped last done none r) lacks.fails (turns_sent done.turns done.all_said lacks.all) lacks.repo)
+          (cannot_ask done.turns last now.client.session (converses_left heard earlier stopped last done none r) lacks.fails (turns_sent done.turns done.all_said lacks.all) lacks.repo)
 
       ends_as : (heard : List Packet) (stopped : Option Stop) (now : ClientSide A K) → Outcome now heard stopped earlier reply false → Receives heard stopped input.read input.is_down
           → EndsAs indexes index_fails OwnStart input output now now.fault
@@ -490,7 +490,7 @@ module _ {A K : Type 0} (indexes : Indexes A) (index_fails : IndexFails) (keeps 
         (passed : ((canonical_all earlier ≡ []) × KeepsPassed output.passed_on) ⊎ ((0 < length (canonical_all earlier)) × PassesBytes (canonical_all earlier) output.written output.passed_on))
         (down : output.is_down ≡ true) where
       unsent : (last : ClientState A) → (done : HasCompleted heard earlier last) → stopped ≡ None → (asked : Asked) → IsDue indexes index_fails OwnStart last asked
-          → reply ≡ canonical_request last.session.format asked → now.repo ≡ last.repo → FailsSo now.repo fetch_fault.WriteFailed
+          → reply ≡ canonical_request last.session.format asked → now.client.repo ≡ last.repo → FailsSo now.client.repo fetch_fault.WriteFailed
       unsent last done none asked is_due is same =
           let bytes = ap canonical_all done.all_said ∙ bytes_of_requests OwnFormat done.turns in
           let parts : request_bytes OwnFormat asked ≡ front ++ back = sym (ap canonical_all (is ∙ ap (λ (f : Format). canonical_request f asked) done.own)) ∙ due in
@@ -500,12 +500,12 @@ module _ {A K : Type 0} (indexes : Indexes A) (index_fails : IndexFails) (keeps 
           (subst (λ (b : Bytes). ((b ≡ []) × KeepsPassed output.passed_on) ⊎ ((0 < length b) × PassesBytes b output.written output.passed_on)) bytes passed) down)
           same
 
-      unsent_next : (last : ClientState A) → HasCompleted heard earlier last → stopped ≡ None → GoesOn last first.fault now reply goes → FailsSo now.repo fetch_fault.WriteFailed
-      unsent_next last done none (inl asks) = unsent last done none asks.asked (request asks.asked now.session asks.asks) asks.all asks.repo
+      unsent_next : (last : ClientState A) → HasCompleted heard earlier last → stopped ≡ None → GoesOn last first.fault now reply goes → FailsSo now.client.repo fetch_fault.WriteFailed
+      unsent_next last done none (inl asks) = unsent last done none asks.asked (request asks.asked now.client.session asks.asks) asks.all asks.repo
       unsent_next last done none (inr (inl ends)) = unsent last done none Empty (ending ends.settles_next) ends.all (ap (λ (c : ClientState A). c.repo) ends.same)
       unsent_next last done none (inr (inr lacks)) = absurd (some lacks.all)
 
-      ends_broken : Outcome now heard stopped earlier reply goes → FailsSo now.repo fetch_fault.WriteFailed
+      ends_broken : Outcome now heard stopped earlier reply goes → FailsSo now.client.repo fetch_fault.WriteFailed
       ends_broken (next last done none on) = unsent_next last done none on
       ends_broken (refused mid front_packets lines cause told is why fails) = absurd (some fails.all)
       ends_broken (mismatched m nothing none) = absurd (some m.fails.all)
@@ -514,11 +514,11 @@ module _ {A K : Type 0} (indexes : Indexes A) (index_fails : IndexFails) (keeps 
     -- ---- a dialogue that ran over a source and a sink
 
     abbrev Ran : Bool → ClientSide A K → Type 0 → Type 0
-    Ran sent now Untouched = HasRun (λ (side : ClientSide A K). session_judge side.session) (λ (side : ClientSide A K). session_brings side.session) OpensFresh
+    Ran sent now Untouched = HasRun (λ (side : ClientSide A K). session_judge side.client.session) (λ (side : ClientSide A K). session_brings side.client.session) OpensFresh
         (AnswersMessage indexes index_fails keeps) RefusesMessage sent first now input.read output.written output.passed_on input.is_down output.is_down Untouched
 
     abbrev Broke : TalkFault → ClientSide A K → Type 0
-    Broke fault now = BreaksBy (λ (side : ClientSide A K). session_judge side.session) (λ (side : ClientSide A K). session_brings side.session) OpensFresh
+    Broke fault now = BreaksBy (λ (side : ClientSide A K). session_judge side.client.session) (λ (side : ClientSide A K). session_brings side.client.session) OpensFresh
         (AnswersMessage indexes index_fails keeps) RefusesMessage fault first now input.read output.written output.passed_on input.is_down
 
     pub talk_ran : (sent : Bool) (now : ClientSide A K) (Untouched : Type 0) → (Untouched → IsUnwritten output) → Ran sent now Untouched
@@ -527,7 +527,7 @@ module _ {A K : Type 0} (indexes : Indexes A) (index_fails : IndexFails) (keeps 
         ends_as sent Untouched untouched h.earlier h.reply h.flushed h.wrote h.heard h.stopped now
         (outcome h.heard h.stopped h.earlier h.reply false now h.replied (inl refl)) h.receives
 
-    pub talk_broke : (fault : TalkFault) (now : ClientSide A K) → IsDownBy {T = Bool} (Err fault) output.was_down output.is_down → Broke fault now → FailsSo now.repo fetch_fault.WriteFailed
+    pub talk_broke : (fault : TalkFault) (now : ClientSide A K) → IsDownBy {T = Bool} (Err fault) output.was_down output.is_down → Broke fault now → FailsSo now.client.repo fetch_fault.WriteFailed
     talk_broke Io now down h =
         ends_broken now h.heard h.stopped h.earlier h.reply h.goes h.some h.receives h.front h.back h.due h.wrote h.passed down
         (outcome h.heard h.stopped h.earlier h.reply h.goes now h.replied (inr h.some))

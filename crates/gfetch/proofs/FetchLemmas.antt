@@ -21,7 +21,7 @@ use Rattle.gsession.specs.declared.fault.ClientFault.{ClientFault}
 use Rattle.gsession.specs.declared.fault.ClientFault.TheVariants as client
 use Rattle.gsession.specs.declared.options.PackOptions.{PackOptions}
 use Rattle.gfetch.specs.Conversations.{Converses, FetchesOver, IsLeft, cannot_settle}
-use Rattle.gfetch.specs.Fetching.{IsFresh, client_of, start_of_side}
+use Rattle.gfetch.specs.Fetching.{IsFresh, start_of_side}
 use Rattle.gfetch.specs.Starts.{Start, begin_session, hear_advert, start_for}
 use Rattle.gfetch.specs.Turns.{ClientState}
 use Rattle.gfetch.specs.declared.fault.FetchFault.{FetchFault}
@@ -39,13 +39,13 @@ err_of value (Err e) is = ap Err is
 -- ---- the beginning
 
 module _ {A K : Type 0} (repo : RepoState A) (refspecs : List Refspec) (limit : ℕ) (ends : Ends) (options : PackOptions) (session : SessionState A) (side : ClientSide A K)
-    (same_repo : side.repo ≡ repo) (same_session : side.session ≡ session) (began : session ≡ begin_session (start_for repo refspecs limit ends options)) where
+    (same_repo : side.client.repo ≡ repo) (same_session : side.client.session ≡ session) (began : session ≡ begin_session (start_for repo refspecs limit ends options)) where
   pub same_start : start_of_side side ≡ start_for repo refspecs limit ends options
   same_start =
-      ap (λ (s : SessionState A). start_for side.repo s.refspecs s.limit s.ends s.options) (same_session ∙ began)
+      ap (λ (s : SessionState A). start_for side.client.repo s.refspecs s.limit s.ends s.options) (same_session ∙ began)
       ∙ ap (λ (r : RepoState A). start_for r refspecs limit ends options) same_repo
 
-  pub is_fresh : length refspecs ≤ max_specs → side.unborn ≡ None → side.fault ≡ None → IsFresh side
+  pub is_fresh : length refspecs ≤ max_specs → side.client.unborn ≡ None → side.fault ≡ None → IsFresh side
   is_fresh few unborn fault = record {
     begun = same_session ∙ began ∙ ap (λ (s : Start A). begin_session s) (sym same_start);
     few = subst (λ (specs : List Refspec). length specs ≤ max_specs) (sym (ap (λ (s : SessionState A). s.refspecs) (same_session ∙ began))) few;
@@ -64,11 +64,11 @@ settle_fails old new repo after unborn other ready h = absurd h
 
 module _ {A K : Type 0} (indexes : Indexes A) (index_fails : IndexFails) (start : Start A) (input : Input) (output : Output) (now : ClientSide A K)
     (closed : HasClosed indexes index_fails start input output now) where
-  pub settled_over : (new : RepoState A) (result : Result (Fetched A) (FetchFault A)) → SettlesFetch now.session now.repo now.unborn new result
+  pub settled_over : (new : RepoState A) (result : Result (Fetched A) (FetchFault A)) → SettlesFetch now.client.session now.client.repo now.client.unborn new result
       → FetchesOver indexes index_fails start input output new result
   settled_over new (Ok fetched) h = record {
     talk = closed.talk;
-    last = client_of now;
+    last = now.client;
     converses = closed.converses;
     settles_next = closed.settles_next;
     passed = closed.passed;
@@ -78,20 +78,20 @@ module _ {A K : Type 0} (indexes : Indexes A) (index_fails : IndexFails) (start 
     unborn = h.3;
   }
   settled_over new (Err (fetch.Client (client.Repo cause))) h =
-      cannot_settle closed.talk (client_of now) cause closed.converses closed.settles_next closed.passed h
+      cannot_settle closed.talk now.client cause closed.converses closed.settles_next closed.passed h
   settled_over new (Err other) h = absurd h
 
 -- the number of requests for objects is bounded by the number of ids that the refs reached
 pub closed_bound : {A K : Type 0} (indexes : Indexes A) (index_fails : IndexFails) (start : Start A) (input : Input) (output : Output) (now : ClientSide A K)
-    → HasClosed indexes index_fails start input output now → DistinctAreOnce → BeganStays A → RoundsAreFew A → IsConnectedRepo start.repo → IsSession now.session
-    → (held parents : ℕ) → CountsReached start.repo.graph.entries (tips_of start.repo) held parents → now.session.rounds ≤ held + 1
+    → HasClosed indexes index_fails start input output now → DistinctAreOnce → BeganStays A → RoundsAreFew A → IsConnectedRepo start.repo → IsSession now.client.session
+    → (held parents : ℕ) → CountsReached start.repo.graph.entries (tips_of start.repo) held parents → now.client.session.rounds ≤ held + 1
 closed_bound {A = A} indexes index_fails start input output now closed once stays few whole is held parents counts =
     let first = hear_advert start closed.converses.capabilities in
     let g = start.repo.graph.entries in
     let each = closed.converses.each in
-    let began = turns_began indexes index_fails stays g first closed.talk (client_of now) (kept_still first).grows (begins_on once start.repo first.session whole refl refl) each in
-    let tips : now.session.tips ≡ tips_of start.repo = (turns_kept indexes index_fails first closed.talk (client_of now) each).tips in
-    few g now.session held parents is began (subst (λ (ids : List (List ℕ)). CountsReached g ids held parents) (sym tips) counts)
+    let began = turns_began indexes index_fails stays g first closed.talk now.client (kept_still first).grows (begins_on once start.repo first.session whole refl refl) each in
+    let tips : now.client.session.tips ≡ tips_of start.repo = (turns_kept indexes index_fails first closed.talk now.client each).tips in
+    few g now.client.session held parents is began (subst (λ (ids : List (List ℕ)). CountsReached g ids held parents) (sym tips) counts)
 
 -- settling a session leaves the graph unchanged
 pub fault_keeps_graph : {A : Type 0} (old new : SessionState A) (repo after : RepoState A) (fault : ClientFault A) → SettlesSession old repo new after (Err fault)
@@ -125,22 +125,18 @@ module _ {A K : Type 0} (indexes : Indexes A) (index_fails : IndexFails) (start 
   ends_by sent fault ran is =
       subst (EndsAs indexes index_fails start input output now) is (subst (EndsTalk indexes index_fails start input output now) ran ends)
 
-  pub over_broken : (fault : TalkFault) → driven ≡ Err fault → FetchesOver indexes index_fails start input output now.repo (Err fetch.WriteFailed)
+  pub over_broken : (fault : TalkFault) → driven ≡ Err fault → FetchesOver indexes index_fails start input output now.client.repo (Err fetch.WriteFailed)
   over_broken fault broke = subst (EndsTalk indexes index_fails start input output now) broke ends
 
-  pub over_fault : (sent : Bool) (fault : ClientFault A) → driven ≡ Ok sent → now.fault ≡ Some fault → after.repo ≡ now.repo
-      → FetchesOver indexes index_fails start input output after.repo (Err (fetch.Client fault))
+  pub over_fault : (sent : Bool) (fault : ClientFault A) → driven ≡ Ok sent → now.fault ≡ Some fault → after.client ≡ now.client
+      → FetchesOver indexes index_fails start input output after.client.repo (Err (fetch.Client fault))
   over_fault sent fault ran is same =
-      subst (λ (r : RepoState A). FetchesOver indexes index_fails start input output r (Err (fetch.Client fault))) (sym same) (ends_by sent (Some fault) ran is)
+      subst (λ (c : ClientState A). FetchesOver indexes index_fails start input output c.repo (Err (fetch.Client fault))) (sym same) (ends_by sent (Some fault) ran is)
 
-  pub closed_after : (sent : Bool) → driven ≡ Ok sent → now.fault ≡ None → after.session ≡ now.session → after.repo ≡ now.repo → after.unborn ≡ now.unborn
+  pub closed_after : (sent : Bool) → driven ≡ Ok sent → now.fault ≡ None → after.client ≡ now.client
       → HasClosed indexes index_fails start input output after
-  closed_after sent ran is session repo unborn =
+  closed_after sent ran is same =
       let h : HasClosed indexes index_fails start input output now = ends_by sent None ran is in
-      let same : client_of after ≡ client_of now =
-      ap (λ (s : SessionState A). record (client_of after) { session = s }) session
-      ∙ ap (λ (r : RepoState A). record (client_of after) { session = now.session; repo = r }) repo
-      ∙ ap (λ (u : Option Name). record (client_of after) { session = now.session; repo = now.repo; unborn = u }) unborn in
       record {
         talk = h.talk;
         converses = subst (λ (c : ClientState A). Converses indexes index_fails start input h.talk c IsLeft) (sym same) h.converses;

@@ -130,11 +130,11 @@ module _ {A K F : Type 0} (indexes : Indexes A) (index_fails : IndexFails) (keep
   Answered pending = AnswersAfter indexes index_fails keeps pending old new lines said goes
 
   abbrev Hears : Option Asked → Heard A F → Type 0
-  Hears pending message = HearsAfter old.session fed index_fails pending message lines
+  Hears pending message = HearsAfter old.client.session fed index_fails pending message lines
 
-  pub advert_answered : (pending : Option Asked) (reader : AdvertReader A) → IsWhole (judge_after old.session pending) lines
+  pub advert_answered : (pending : Option Asked) (reader : AdvertReader A) → IsWhole (judge_after old.client.session pending) lines
       → Hears pending (heard.Advert reader)
-      → (advert.Says lines reader.advert → IsBegun old.session → AnswersAdvert old new lines said goes ⊎ MismatchesAdvert old new lines said goes)
+      → (advert.Says lines reader.advert → IsBegun old.client.session → AnswersAdvert old new lines said goes ⊎ MismatchesAdvert old new lines said goes)
       → Answered pending
   advert_answered None reader whole held answers = answers (record { whole = whole; says = held.listed })
   advert_answered (Some Empty) reader whole held answers = tt
@@ -145,19 +145,19 @@ module _ {A K F : Type 0} (indexes : Indexes A) (index_fails : IndexFails) (keep
   Replied asked = AcceptsReply indexes index_fails asked old new lines said goes
       ⊎ DeclinesReply indexes index_fails asked old new lines said goes
 
-  pub refs_answered : (pending : Option Asked) (reader : LsReplyReader A) → old.session.pending ≡ pending
-      → IsWhole (judge_after old.session pending) lines → Hears pending (heard.Refs reader)
-      → ((asked : LsRefsAsked) → old.session.pending ≡ Some (Ls asked) → Holds reader lines → IsWhole (ls.judge old.session.format old.session.ends) lines → Replied (Ls asked))
+  pub refs_answered : (pending : Option Asked) (reader : LsReplyReader A) → old.client.session.pending ≡ pending
+      → IsWhole (judge_after old.client.session pending) lines → Hears pending (heard.Refs reader)
+      → ((asked : LsRefsAsked) → old.client.session.pending ≡ Some (Ls asked) → Holds reader lines → IsWhole (ls.judge old.client.session.format old.client.session.ends) lines → Replied (Ls asked))
       → Answered pending
   refs_answered None reader is whole held answers = absurd held
   refs_answered (Some Empty) reader is whole held answers = absurd held
   refs_answered (Some (Ls asked)) reader is whole held answers = answers asked is held.2 whole
   refs_answered (Some (Fetches asked)) reader is whole held answers = absurd held
 
-  pub objects_answered : (pending : Option Asked) (reader : ObjectsReader F A) → old.session.pending ≡ pending
-      → IsWhole (judge_after old.session pending) lines → Hears pending (heard.Objects reader)
-      → ((asked : FetchAsked) → Awaits old.session asked → HoldsObjects fed index_fails (reading_for old.session asked) reader lines
-      → IsWhole (fetch.judge (reading_for old.session asked)) lines → Replied (Fetches asked))
+  pub objects_answered : (pending : Option Asked) (reader : ObjectsReader F A) → old.client.session.pending ≡ pending
+      → IsWhole (judge_after old.client.session pending) lines → Hears pending (heard.Objects reader)
+      → ((asked : FetchAsked) → Awaits old.client.session asked → HoldsObjects fed index_fails (reading_for old.client.session asked) reader lines
+      → IsWhole (fetch.judge (reading_for old.client.session asked)) lines → Replied (Fetches asked))
       → Answered pending
   objects_answered None reader is whole held answers = absurd held
   objects_answered (Some Empty) reader is whole held answers = absurd held
@@ -165,8 +165,8 @@ module _ {A K F : Type 0} (indexes : Indexes A) (index_fails : IndexFails) (keep
   objects_answered (Some (Fetches asked)) reader is whole held answers = answers asked is held whole
 
   -- the reader of a fetch reply belongs to a session that waits for this reply
-  pub objects_awaited : (pending : Option Asked) (reader : ObjectsReader F A) → old.session.pending ≡ pending → Hears pending (heard.Objects reader)
-      → AwaitsObjects old.session
+  pub objects_awaited : (pending : Option Asked) (reader : ObjectsReader F A) → old.client.session.pending ≡ pending → Hears pending (heard.Objects reader)
+      → AwaitsObjects old.client.session
   objects_awaited None reader is held = absurd held
   objects_awaited (Some Empty) reader is held = absurd held
   objects_awaited (Some (Ls asked)) reader is held = absurd held

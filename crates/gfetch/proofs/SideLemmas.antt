@@ -17,6 +17,7 @@ use Rattle.gclientrepo.specs.declared.fault.RepoFault.TheVariants as repo
 use Rattle.gfetchreply.specs.FetchReplies.{FetchReply, reply_of}
 use Rattle.gfetchreply.specs.FetchReplies as fetch
 use Rattle.grequest.specs.Asked.{Asked, Empty, Ls, Fetches, FetchAsked, LsRefsAsked}
+use Rattle.gsession.specs.Keeping.{KeepsOn}
 use Rattle.gsession.specs.Requesting.{Requests, is_due}
 use Rattle.gsession.specs.Sessions.{SessionState, Hears, IsBegun, after_fault, no_memory, over, tells_unborn}
 use Rattle.gsession.specs.TakingRefs.{AcceptsRefs as SessionAcceptsRefs, IsUnaccepted, stage_for}
@@ -32,9 +33,9 @@ use Rattle.gsession.proofs.KeepingLemmas.{keeps_stays, keeps_then}
 use Rattle.gdialogue.specs.Sides.{MayAnswer, SaysExactly}
 use Rattle.gdialogue.specs.declared.side.Answer.{Answer}
 use Rattle.gdialogue.specs.declared.side.Answer.TheVariants as answer
-use Rattle.gfetch.specs.Fetching.{AcceptsReply, AnswersAdvert, AreDeclinedRefs, DeclinesReply, Fails, GoesOn, IsDeclined, KeepsObjects, LacksMemory, MismatchesAdvert, client_of, messages_after, messages_of}
+use Rattle.gfetch.specs.Fetching.{AnswersAdvert, AreDeclinedRefs, Fails, GoesOn, KeepsObjects, LacksMemory, MismatchesAdvert, messages_after, messages_of}
 use Rattle.gfetch.specs.Saying.{reply_rest}
-use Rattle.gfetch.specs.Turns.{ClientState, Takes}
+use Rattle.gfetch.specs.Turns.{ClientState}
 use Rattle.gfetch.specs.declared.asking.ClientReply.{ClientReply}
 use Rattle.gfetch.specs.declared.asking.ClientReply.TheVariants as reply
 use Rattle.gfetch.specs.declared.side.ClientSide.{ClientSide}
@@ -226,7 +227,7 @@ module _ {A K : Type 0} (keeps : K → Id → Type 0) where
   -- an unchanged indexer keeps each object of an unchanged graph
   pub objects_stay : (old new : ClientSide A K) → KeepsRest old new → KeepsObjects keeps old new
   objects_stay old new rest = record {
-    keeps_on = keeps_stays (keeps old.indexer.now) (keeps new.indexer.now) old.repo.graph.entries new.repo.graph.entries
+    keeps_on = keeps_stays (keeps old.indexer.now) (keeps new.indexer.now) old.client.repo.graph.entries new.client.repo.graph.entries
         (λ id is. subst (λ (k : K). keeps k id) (sym rest.indexer.value) is) (ap (λ (r : RepoState A). r.graph.entries) rest.repo);
     in_place = rest.indexer.in_place;
   }
@@ -234,16 +235,25 @@ module _ {A K : Type 0} (keeps : K → Id → Type 0) where
   -- one change after the other
   pub objects_then : (old mid new : ClientSide A K) → KeepsObjects keeps old mid → KeepsObjects keeps mid new → KeepsObjects keeps old new
   objects_then old mid new one two = record {
-    keeps_on = keeps_then (keeps old.indexer.now) (keeps mid.indexer.now) (keeps new.indexer.now) old.repo.graph.entries mid.repo.graph.entries new.repo.graph.entries
+    keeps_on = keeps_then (keeps old.indexer.now) (keeps mid.indexer.now) (keeps new.indexer.now) old.client.repo.graph.entries mid.client.repo.graph.entries new.client.repo.graph.entries
         one.keeps_on two.keeps_on;
     in_place = two.in_place ∙ one.in_place;
   }
 
--- one unchanged step after the other
-pub rest_then : {A K : Type 0} (old mid new : ClientSide A K) → KeepsRest old mid → KeepsRest mid new → KeepsRest old new
-rest_then old mid new one two = record {
-  indexer = record { value = two.indexer.value ∙ one.indexer.value; in_place = two.indexer.in_place ∙ one.indexer.in_place };
-  repo = two.repo ∙ one.repo;
+  -- the indexer and the graph change, and then stay the same
+  pub objects_kept : (old new : ClientSide A K) (mid : ClientState A) (kept : K) → KeepsOn (keeps old.indexer.now) (keeps kept) old.client.repo.graph.entries mid.repo.graph.entries
+      → new.indexer.now ≡ kept → new.indexer.ghost_name ≡ old.indexer.ghost_name → new.client.repo ≡ mid.repo → KeepsObjects keeps old new
+  objects_kept old new mid kept keeps_on value in_place repo = record {
+    keeps_on = subst (λ (k : K). KeepsOn (keeps old.indexer.now) (keeps k) old.client.repo.graph.entries new.client.repo.graph.entries) (sym value)
+        (subst (λ (r : RepoState A). KeepsOn (keeps old.indexer.now) (keeps kept) old.client.repo.graph.entries r.graph.entries) (sym repo) keeps_on);
+    in_place = in_place;
+  }
+
+-- a client that keeps its repository, followed by an unchanged step
+pub rest_then : {A K : Type 0} (old new : ClientSide A K) (mid : ClientState A) → mid.repo ≡ old.client.repo → KeepsRest (record old { client = mid }) new → KeepsRest old new
+rest_then old new mid same rest = record {
+  indexer = record { value = rest.indexer.value; in_place = rest.indexer.in_place };
+  repo = rest.repo ∙ same;
 }
 
 -- ---- answers
@@ -254,58 +264,64 @@ pub silent : {A : Type 0} (result : Answer (ClientReply A)) (said : List Packet)
 silent {A} result said goes is may =
     let m = subst (λ (a : Answer (ClientReply A)). MayAnswer (SaysExactly reply_rest) a said goes) is may in (m.1.1.0, m.0)
 
-module _ {A K : Type 0} (old mid new : ClientSide A K) (result : Answer (ClientReply A)) (cause : ClientFault A) (said : List Packet) (goes : Bool)
+module _ {A K : Type 0} (old new : ClientSide A K) (mid : ClientState A) (result : Answer (ClientReply A)) (cause : ClientFault A) (said : List Packet) (goes : Bool)
     (is : result ≡ answer.Last reply.Silence) (may : MayAnswer (SaysExactly reply_rest) result said goes) (stored : new.fault ≡ Some cause)
-    (session : new.session ≡ mid.session) (kept : new.repo ≡ mid.repo) (target : new.unborn ≡ mid.unborn) where
+    (same : new.client ≡ mid) where
   -- the client rejects a message, after which the session is over
-  pub failed : mid.session ≡ over old.session → mid.repo ≡ old.repo → mid.unborn ≡ old.unborn → Fails old new cause said goes
+  pub failed : mid.session ≡ over old.client.session → mid.repo ≡ old.client.repo → mid.unborn ≡ old.client.unborn → Fails old new cause said goes
   failed over repo unborn =
       let s = silent result said goes is may in
-      record { session = session ∙ over; repo = kept ∙ repo; unborn = target ∙ unborn; fault = stored; all = s.0; ended = s.1 }
-
-  -- the client does not have enough memory for the next request
-  pub lacked : Requests old.session old.repo.graph.entries mid.session (Err no_memory) → cause ≡ no_memory → mid.repo ≡ old.repo → mid.unborn ≡ old.unborn
-      → LacksMemory (client_of old) old.fault new said goes
-  lacked fails same repo unborn =
-      let s = silent result said goes is may in
       record {
-        fails = subst (λ (t : SessionState A). Requests old.session old.repo.graph.entries t (Err no_memory)) (sym session) fails;
+        session = ap (λ (c : ClientState A). c.session) same ∙ over;
+        repo = ap (λ (c : ClientState A). c.repo) same ∙ repo;
+        unborn = ap (λ (c : ClientState A). c.unborn) same ∙ unborn;
+        fault = stored;
         all = s.0;
         ended = s.1;
-        repo = kept ∙ repo;
-        unborn = target ∙ unborn;
-        fault = stored ∙ ap (λ (f : ClientFault A). Some f) same;
       }
 
-module _ {A K : Type 0} (old mid new : ClientSide A K) (capabilities : List Capability) (lines said : List Packet) (goes : Bool)
+  -- the client does not have enough memory for the next request
+  pub lacked : Requests old.client.session old.client.repo.graph.entries mid.session (Err no_memory) → cause ≡ no_memory → mid.repo ≡ old.client.repo → mid.unborn ≡ old.client.unborn
+      → LacksMemory old.client old.fault new said goes
+  lacked fails is_memory repo unborn =
+      let s = silent result said goes is may in
+      record {
+        fails = subst (λ (c : ClientState A). Requests old.client.session old.client.repo.graph.entries c.session (Err no_memory)) (sym same) fails;
+        all = s.0;
+        ended = s.1;
+        repo = ap (λ (c : ClientState A). c.repo) same ∙ repo;
+        unborn = ap (λ (c : ClientState A). c.unborn) same ∙ unborn;
+        fault = stored ∙ ap (λ (f : ClientFault A). Some f) is_memory;
+      }
+
+module _ {A K : Type 0} (old new : ClientSide A K) (mid : ClientState A) (capabilities : List Capability) (lines said : List Packet) (goes : Bool)
     (says : advert.Says lines capabilities) where
   -- the state of the client after the advertisement
-  heard_client : AcceptsAdvert old.session capabilities mid.session (Ok tt) → mid.repo ≡ old.repo → mid.unborn ≡ old.unborn
-      → client_of mid ≡ record (client_of old) { session = record old.session { offers_unborn = tells_unborn capabilities } }
+  heard_client : AcceptsAdvert old.client.session capabilities mid.session (Ok tt) → mid.repo ≡ old.client.repo → mid.unborn ≡ old.client.unborn
+      → mid ≡ record old.client { session = record old.client.session { offers_unborn = tells_unborn capabilities } }
   heard_client accepts repo unborn =
-      let session : SessionState A = record old.session { offers_unborn = tells_unborn capabilities } in
-      ap (λ (s : SessionState A). record (client_of mid) { session = s }) accepts.2
-      ∙ ap (λ (r : RepoState A). record (client_of mid) { session = session; repo = r }) repo
-      ∙ ap (λ (u : Option Name). record (client_of old) { session = session; unborn = u }) unborn
+      let session : SessionState A = record old.client.session { offers_unborn = tells_unborn capabilities } in
+      ap (λ (s : SessionState A). record mid { session = s }) accepts.2
+      ∙ ap (λ (r : RepoState A). record mid { session = session; repo = r }) repo
+      ∙ ap (λ (u : Option Name). record old.client { session = session; unborn = u }) unborn
 
   -- the client accepts the advertisement
-  pub advert_goes : AcceptsAdvert old.session capabilities mid.session (Ok tt) → mid.repo ≡ old.repo → mid.unborn ≡ old.unborn → mid.fault ≡ old.fault
-      → (mid.session.pending ≡ None → mid.session.stage ≢ Over → GoesOn (client_of mid) mid.fault new said goes)
+  pub advert_goes : AcceptsAdvert old.client.session capabilities mid.session (Ok tt) → mid.repo ≡ old.client.repo → mid.unborn ≡ old.client.unborn
+      → (mid.session.pending ≡ None → mid.session.stage ≢ Over → GoesOn mid old.fault new said goes)
       → AnswersAdvert old new lines said goes
-  advert_goes accepts repo unborn fault goes_on =
+  advert_goes accepts repo unborn goes_on =
       let pending : mid.session.pending ≡ None = ap (λ (s : SessionState A). s.pending) accepts.2 ∙ accepts.1.1 in
       let listing : mid.session.stage ≡ Listing = ap (λ (s : SessionState A). s.stage) accepts.2 ∙ accepts.1.0 in
       let stage : mid.session.stage ≢ Over = λ e. absurd (cc (sym listing ∙ e)) in
       record {
         capabilities = capabilities;
         advertises = record { says = says; fits = accepts.0 };
-        goes_on = subst (λ (c : ClientState A). GoesOn c old.fault new said goes) (heard_client accepts repo unborn)
-            (subst (λ (f : Option (ClientFault A)). GoesOn (client_of mid) f new said goes) fault (goes_on pending stage));
+        goes_on = subst (λ (c : ClientState A). GoesOn c old.fault new said goes) (heard_client accepts repo unborn) (goes_on pending stage);
       }
 
   -- the client rejects the advertisement
-  pub advert_mismatches : (cause : ClientFault A) → IsBegun old.session → AcceptsAdvert old.session capabilities mid.session (Err cause)
-      → (mid.session ≡ over old.session → Fails old new cause said goes)
+  pub advert_mismatches : (cause : ClientFault A) → IsBegun old.client.session → AcceptsAdvert old.client.session capabilities mid.session (Err cause)
+      → (mid.session ≡ over old.client.session → Fails old new cause said goes)
       → MismatchesAdvert old new lines said goes
   advert_mismatches client.NoOpenRequest begun accepts fails = absurd (accepts begun)
   advert_mismatches (client.Message cause) begun accepts fails = record {
@@ -322,16 +338,3 @@ module _ {A K : Type 0} (old mid new : ClientSide A K) (capabilities : List Capa
 pub advert_messages : {A : Type 0} (old new : SessionState A) (capabilities : List Capability) → AcceptsAdvert old capabilities new (Ok tt)
     → messages_of new ≡ messages_of old
 advert_messages old new capabilities accepts = ap messages_of accepts.2
-
-module _ {A K : Type 0} (indexes : Indexes A) (index_fails : IndexFails) (old mid new : ClientSide A K) (asked : Asked) (lines said : List Packet) (goes : Bool) where
-  pub reply_answered : Takes indexes index_fails old.session asked (client_of old) lines (client_of mid) → mid.fault ≡ old.fault
-      → GoesOn (client_of mid) mid.fault new said goes → AcceptsReply indexes index_fails asked old new lines said goes
-  reply_answered takes fault goes_on = record {
-    now = client_of mid;
-    takes = takes;
-    goes_on = subst (λ (f : Option (ClientFault A)). GoesOn (client_of mid) f new said goes) fault goes_on;
-  }
-
-  pub reply_declined : (cause : ClientFault A) → IsDeclined indexes index_fails old.session asked old.repo lines cause → Fails old new cause said goes
-      → DeclinesReply indexes index_fails asked old new lines said goes
-  reply_declined cause declined fails = record { cause = cause; declined = declined; fails = fails }

@@ -20,7 +20,7 @@ use Rattle.gsession.specs.TakingReplies.{TakesHead}
 use Rattle.gsession.specs.Sessions.{SessionState, IsBegun, tells_unborn}
 use Rattle.gdialogue.specs.Dialogues.{Answered}
 use Rattle.gdialogue.specs.Dialogues as dialogue
-use Rattle.gfetch.specs.Fetching.{AcceptsReply, AnswersAdvert, AnswersAfter, AnswersMessage, AsksOn, GoesOn, IsFresh, KeepsObjects, MismatchesAdvert, OpensFresh, RefusesMessage, client_of, start_of_side}
+use Rattle.gfetch.specs.Fetching.{AcceptsReply, AnswersAdvert, AnswersAfter, AnswersMessage, AsksOn, GoesOn, IsFresh, KeepsObjects, MismatchesAdvert, OpensFresh, RefusesMessage, start_of_side}
 use Rattle.gfetch.specs.Heard.{session_brings, session_judge}
 use Rattle.gfetch.specs.Laws.{HasTalked, IsTalk, asked_packets, reply_packets}
 use Rattle.gfetch.specs.Laws as talk
@@ -108,25 +108,25 @@ format_takes {A = A} indexes index_fails waiting (Fetches asked) old now lines t
 module _ {A K : Type 0} (indexes : Indexes A) (index_fails : IndexFails) (keeps : K → Id → Type 0) (first : ClientSide A K) where
   module _ (fresh : IsFresh first) where
     pub heard_is : (capabilities : List Capability)
-        → record (client_of first) { session = record first.session { offers_unborn = tells_unborn capabilities } }
+        → record first.client { session = record first.client.session { offers_unborn = tells_unborn capabilities } }
         ≡ hear_advert (start_of_side first) capabilities
     heard_is capabilities =
-        ap (λ (s : SessionState A). record (client_of first) { session = record s { offers_unborn = tells_unborn capabilities } }) fresh.begun
+        ap (λ (s : SessionState A). record first.client { session = record s { offers_unborn = tells_unborn capabilities } }) fresh.begun
         ∙ ap (λ (u : Option Name). record (hear_advert (start_of_side first) capabilities) { unborn = u }) fresh.unborn
 
-    pub format_is : first.session.format ≡ first.repo.graph.format
+    pub format_is : first.client.session.format ≡ first.client.repo.graph.format
     format_is = ap (λ (s : SessionState A). s.format) fresh.begun
 
-    pub pending_is : first.session.pending ≡ None
+    pub pending_is : first.client.session.pending ≡ None
     pending_is = ap (λ (s : SessionState A). s.pending) fresh.begun
 
-    pub begun_is : IsBegun first.session
+    pub begun_is : IsBegun first.client.session
     begun_is = (ap (λ (s : SessionState A). s.stage) fresh.begun, pending_is)
 
     after_advert : (lines reply : List Packet) (now : ClientSide A K) → KeepsObjects keeps first now
         → AnswersAdvert first now lines reply true → HasTalked indexes index_fails keeps first lines reply now
     after_advert lines reply now same heard =
-        let client = record (client_of first) { session = record first.session { offers_unborn = tells_unborn heard.capabilities } } in
+        let client = record first.client { session = record first.client.session { offers_unborn = tells_unborn heard.capabilities } } in
         let asks = goes_asks client first.fault now reply heard.goes_on in
         record {
           packets = lines;
@@ -137,9 +137,9 @@ module _ {A K : Type 0} (indexes : Indexes A) (index_fails : IndexFails) (keeps 
           each = refl;
           all_heard = sym (append-nil lines);
           asked = asks.asked;
-          asks = subst (λ (c : ClientState A). AsksNext c asks.asked now.session) (heard_is heard.capabilities) asks.asks;
+          asks = subst (λ (c : ClientState A). AsksNext c asks.asked now.client.session) (heard_is heard.capabilities) asks.asks;
           all_said = asks.all ∙ ap (λ (f : Format). canonical_request f asks.asked) format_is;
-          format = format_waits first.repo.graph.entries client.session now.session asks.asked asks.asks ∙ format_is;
+          format = format_waits first.client.repo.graph.entries client.session now.client.session asks.asked asks.asks ∙ format_is;
           repo = asks.repo;
           unborn = asks.unborn ∙ fresh.unborn;
           fault = asks.fault;
@@ -161,7 +161,7 @@ module _ {A K : Type 0} (indexes : Indexes A) (index_fails : IndexFails) (keeps 
   -- ---- a further answer
 
   pub accepted : (asked : Asked) (g : List (Entry A)) (last : SessionState A) (mid now : ClientSide A K) (lines reply : List Packet)
-      → Requests last g mid.session (Ok asked)
+      → Requests last g mid.client.session (Ok asked)
       → AnswersAfter indexes index_fails keeps (Some asked) mid now lines reply true
       → AcceptsReply indexes index_fails asked mid now lines reply true
   accepted Empty g last mid now lines reply made answers = absurd made.1.1
@@ -175,18 +175,18 @@ module _ {A K : Type 0} (indexes : Indexes A) (index_fails : IndexFails) (keeps 
       → HasTalked indexes index_fails keeps first (heard ++ lines) (said ++ reply) now
   more_talk heard said lines reply mid now h answers =
       let g = h.last.repo.graph.entries in
-      let opened = waits g h.last.session mid.session h.asked h.asks in
-      let format = first.repo.graph.format in
+      let opened = waits g h.last.session mid.client.session h.asked h.asks in
+      let format = first.client.repo.graph.format in
       let a = accepted h.asked g h.last.session mid now lines reply h.asks
       (subst (λ (p : Option Asked). AnswersAfter indexes index_fails keeps p mid now lines reply true) opened answers.answers) in
       let asks = goes_asks a.now mid.fault now reply a.goes_on in
       let turn : Turn = record { asked = h.asked; reply = lines } in
       let is : IsTurn indexes index_fails h.last turn a.now = record {
-        waiting = mid.session;
+        waiting = mid.client.session;
         asks = h.asks;
-        takes = takes_same indexes index_fails mid.session h.asked (client_of mid) h.last a.now lines h.repo h.unborn a.takes;
+        takes = takes_same indexes index_fails mid.client.session h.asked mid.client h.last a.now lines h.repo h.unborn a.takes;
       } in
-      let kept = format_takes indexes index_fails mid.session h.asked (client_of mid) a.now lines a.takes ∙ h.format in
+      let kept = format_takes indexes index_fails mid.client.session h.asked mid.client a.now lines a.takes ∙ h.format in
       record {
         packets = h.packets;
         capabilities = h.capabilities;
@@ -204,7 +204,7 @@ module _ {A K : Type 0} (indexes : Indexes A) (index_fails : IndexFails) (keeps 
             ∙ ap (λ (l : List Packet). (asked_packets format h.turns ++ canonical_request format h.asked) ++ l) (asks.all ∙ ap (λ (f : Format). canonical_request f asks.asked) kept)
             ∙ ap (λ (l : List Packet). l ++ canonical_request format asks.asked)
             (sym (flat_map-append (λ (t : Turn). canonical_request format t.asked) h.turns (turn ∷ []) ∙ ap (λ (l : List Packet). asked_packets format h.turns ++ l) (append-nil (canonical_request format h.asked))));
-        format = format_waits a.now.repo.graph.entries a.now.session now.session asks.asked asks.asks ∙ kept;
+        format = format_waits a.now.repo.graph.entries a.now.session now.client.session asks.asked asks.asks ∙ kept;
         repo = asks.repo;
         unborn = asks.unborn;
         fault = asks.fault ∙ h.fault;
@@ -219,7 +219,7 @@ module _ {A K : Type 0} (indexes : Indexes A) (index_fails : IndexFails) (keeps 
       talk.IsTalk.talked (so_far ++ lines) (so_said ++ reply) now fresh (more_talk so_far so_said lines reply there now h answers)
 
   pub dialogues_are_turns : (heard said : List Packet) (now : ClientSide A K)
-      → Answered (λ (side : ClientSide A K). session_judge side.session) (λ (side : ClientSide A K). session_brings side.session) OpensFresh
+      → Answered (λ (side : ClientSide A K). session_judge side.client.session) (λ (side : ClientSide A K). session_brings side.client.session) OpensFresh
       (AnswersMessage indexes index_fails keeps) RefusesMessage first heard said now
       → IsTalk indexes index_fails keeps first heard said now
   dialogues_are_turns heard said now (dialogue.Answered.opened packets h) =

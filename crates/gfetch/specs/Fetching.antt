@@ -30,10 +30,6 @@ use Rattle.gfetch.specs.Starts.{Advertises, Start, begin_session, start_for}
 use Rattle.gfetch.specs.Turns.{AsksNext, ClientState, Takes}
 use Rattle.gfetch.specs.declared.side.ClientSide.{ClientSide}
 
--- the session, the repository, and the target of the server's unborn HEAD
-abbrev pub client_of : {A K : Type 0} → ClientSide A K → ClientState A
-client_of side = record { session = side.session; repo = side.repo; unborn = side.unborn }
-
 -- ---- what the client sends after it accepted a message
 
 module _ {A K : Type 0} (client : ClientState A) (kept : Option (ClientFault A)) (new : ClientSide A K)
@@ -41,11 +37,11 @@ module _ {A K : Type 0} (client : ClientState A) (kept : Option (ClientFault A))
   -- the client sends its next request, and waits for the reply
   pub record AsksOn : Type 0 where
     pub asked : Asked
-    pub asks : AsksNext client asked new.session
+    pub asks : AsksNext client asked new.client.session
     pub all : said ≡ canonical_request client.session.format asked
     pub goes_on : goes ≡ true
-    pub repo : new.repo ≡ client.repo
-    pub unborn : new.unborn ≡ client.unborn
+    pub repo : new.client.repo ≡ client.repo
+    pub unborn : new.client.unborn ≡ client.unborn
     pub fault : new.fault ≡ kept
 
   -- the client needs nothing more from the server, and sends the lone flush packet that ends the conversation
@@ -53,16 +49,16 @@ module _ {A K : Type 0} (client : ClientState A) (kept : Option (ClientFault A))
     pub settles_next : client.session.stage ≡ Settling
     pub all : said ≡ canonical_request client.session.format Empty
     pub ended : goes ≡ false
-    pub same : client_of new ≡ client
+    pub same : new.client ≡ client
     pub fault : new.fault ≡ kept
 
   -- the client does not have enough memory for the next request, and sends nothing
   pub record LacksMemory : Type 0 where
-    pub fails : Requests client.session client.repo.graph.entries new.session (Err no_memory)
+    pub fails : Requests client.session client.repo.graph.entries new.client.session (Err no_memory)
     pub all : said ≡ []
     pub ended : goes ≡ false
-    pub repo : new.repo ≡ client.repo
-    pub unborn : new.unborn ≡ client.unborn
+    pub repo : new.client.repo ≡ client.repo
+    pub unborn : new.client.unborn ≡ client.unborn
     pub fault : new.fault ≡ Some no_memory
 
   abbrev pub GoesOn : Type 0
@@ -71,9 +67,9 @@ module _ {A K : Type 0} (client : ClientState A) (kept : Option (ClientFault A))
 -- the client rejects a message with this fault, and sends nothing more; the fault ends the session
 pub record Fails {A K : Type 0} (old new : ClientSide A K) (cause : ClientFault A) (said : List Packet) (goes : Bool)
     : Type 0 where
-  pub session : new.session ≡ over old.session
-  pub repo : new.repo ≡ old.repo
-  pub unborn : new.unborn ≡ old.unborn
+  pub session : new.client.session ≡ over old.client.session
+  pub repo : new.client.repo ≡ old.client.repo
+  pub unborn : new.client.unborn ≡ old.client.unborn
   pub fault : new.fault ≡ Some cause
   pub all : said ≡ []
   pub ended : goes ≡ false
@@ -84,9 +80,9 @@ module _ {A K : Type 0} (old new : ClientSide A K) (lines said : List Packet) (g
   -- the packets are the advertisement of a server that the client supports
   pub record AnswersAdvert : Type 0 where
     pub capabilities : List Capability
-    pub advertises : Advertises old.session.format lines capabilities
+    pub advertises : Advertises old.client.session.format lines capabilities
     pub goes_on : GoesOn
-        (record (client_of old) { session = record old.session { offers_unborn = tells_unborn capabilities } })
+        (record old.client { session = record old.client.session { offers_unborn = tells_unborn capabilities } })
         old.fault new said goes
 
   -- the packets are the advertisement of a server that the client does not support
@@ -94,7 +90,7 @@ module _ {A K : Type 0} (old new : ClientSide A K) (lines said : List Packet) (g
     pub capabilities : List Capability
     pub says : advert.Says lines capabilities
     pub cause : MessageFault
-    pub why : check_fault old.session.format capabilities ≡ Some cause.why
+    pub why : check_fault old.client.session.format capabilities ≡ Some cause.why
     pub frame : cause.frame ≡ 0
     pub fails : Fails old new (client.Message cause) said goes
 
@@ -118,13 +114,13 @@ module _ {A : Type 0} (indexes : Indexes A) (index_fails : IndexFails) where
     -- the client accepts the reply to the open request
     pub record AcceptsReply : Type 0 where
       pub now : ClientState A
-      pub takes : Takes indexes index_fails old.session asked (client_of old) lines now
+      pub takes : Takes indexes index_fails old.client.session asked old.client lines now
       pub goes_on : GoesOn now old.fault new said goes
 
     -- the client rejects the content of the reply to the open request
     pub record DeclinesReply : Type 0 where
       pub cause : ClientFault A
-      pub declined : IsDeclined old.session asked old.repo lines cause
+      pub declined : IsDeclined old.client.session asked old.client.repo lines cause
       pub fails : Fails old new cause said goes
 
 -- ---- any message
@@ -136,14 +132,15 @@ pub record KeepsIndexer {A K : Type 0} (old new : ClientSide A K) : Type 0 where
 
 -- the indexer still keeps all that it kept before, and it keeps each object that the graph gained
 pub record KeepsObjects {A K : Type 0} (keeps : K → Id → Type 0) (old new : ClientSide A K) : Type 0 where
-  pub keeps_on : KeepsOn (keeps old.indexer.now) (keeps new.indexer.now) old.repo.graph.entries new.repo.graph.entries
+  pub keeps_on :
+      KeepsOn (keeps old.indexer.now) (keeps new.indexer.now) old.client.repo.graph.entries new.client.repo.graph.entries
   pub in_place : new.indexer.ghost_name ≡ old.indexer.ghost_name
 
 module _ {A K : Type 0} (indexes : Indexes A) (index_fails : IndexFails) (keeps : K → Id → Type 0) where
   -- the answer to a message, given the open request of the session; an open request is never empty
   abbrev pub AnswersAfter : Option Asked → ClientSide A K → ClientSide A K → List Packet → List Packet → Bool → Type 0
   AnswersAfter None old new lines said goes =
-      IsBegun old.session → AnswersAdvert old new lines said goes ⊎ MismatchesAdvert old new lines said goes
+      IsBegun old.client.session → AnswersAdvert old new lines said goes ⊎ MismatchesAdvert old new lines said goes
   AnswersAfter (Some Empty) old new lines said goes = Unit {0}
   AnswersAfter (Some asked) old new lines said goes =
       AcceptsReply indexes index_fails asked old new lines said goes
@@ -153,9 +150,9 @@ module _ {A K : Type 0} (indexes : Indexes A) (index_fails : IndexFails) (keeps 
   -- the indexer
   pub record AnswersMessage (old : ClientSide A K) (lines said : List Packet) (goes : Bool) (new : ClientSide A K)
       : Type 0 where
-    pub answers : AnswersAfter old.session.pending old new lines said goes
+    pub answers : AnswersAfter old.client.session.pending old new lines said goes
     pub indexer : KeepsObjects keeps old new
-    pub changed : AwaitsObjects old.session ⊎ (new.indexer.now ≡ old.indexer.now)
+    pub changed : AwaitsObjects old.client.session ⊎ (new.indexer.now ≡ old.indexer.now)
 
 -- a message is refused: its grammar rejects a packet, memory runs out, or no more packets arrive before its end; the
 -- client sends nothing more
@@ -169,13 +166,14 @@ pub record RefusesMessage {A K : Type 0} (old : ClientSide A K) (fault : Message
 -- the inputs of the conversation that the side holds, if the side has received no message
 abbrev pub start_of_side : {A K : Type 0} → ClientSide A K → Start A
 start_of_side side =
-    start_for side.repo side.session.refspecs side.session.limit side.session.ends side.session.options
+    let session = side.client.session in
+    start_for side.client.repo session.refspecs session.limit session.ends session.options
 
 -- a client side that has received no message
 pub record IsFresh {A K : Type 0} (side : ClientSide A K) : Type 0 where
-  pub begun : side.session ≡ begin_session (start_of_side side)
-  pub few : length side.session.refspecs ≤ max_specs
-  pub unborn : side.unborn ≡ None
+  pub begun : side.client.session ≡ begin_session (start_of_side side)
+  pub few : length side.client.session.refspecs ≤ max_specs
+  pub unborn : side.client.unborn ≡ None
   pub fault : side.fault ≡ None
 
 -- a client side that has received no message opens the dialogue without a packet

@@ -30,17 +30,18 @@ module _ {A K : Type 0} (indexes : Indexes A) (index_fails : IndexFails) (keeps 
   pub record HasTalked (first : ClientSide A K) (heard said : List Packet) (now : ClientSide A K) : Type 0 where
     pub packets : List Packet
     pub capabilities : List Capability
-    pub advertises : Advertises first.repo.graph.format packets capabilities
+    pub advertises : Advertises first.client.repo.graph.format packets capabilities
     pub turns : List Turn
     pub last : ClientState A
     pub each : AreTurns indexes index_fails (hear_advert (start_of_side first) capabilities) turns last
     pub all_heard : heard ≡ packets ++ reply_packets turns
     pub asked : Asked
-    pub asks : AsksNext last asked now.session
-    pub all_said : said ≡ asked_packets first.repo.graph.format turns ++ canonical_request first.repo.graph.format asked
-    pub format : now.session.format ≡ first.repo.graph.format
-    pub repo : now.repo ≡ last.repo
-    pub unborn : now.unborn ≡ last.unborn
+    pub asks : AsksNext last asked now.client.session
+    pub all_said :
+        said ≡ asked_packets first.client.repo.graph.format turns ++ canonical_request first.client.repo.graph.format asked
+    pub format : now.client.session.format ≡ first.client.repo.graph.format
+    pub repo : now.client.repo ≡ last.repo
+    pub unborn : now.client.unborn ≡ last.unborn
     pub fault : now.fault ≡ first.fault
     pub indexer : KeepsObjects keeps first now
 
@@ -53,6 +54,6 @@ module _ {A K : Type 0} (indexes : Indexes A) (index_fails : IndexFails) (keeps 
   -- the dialogue of a client, as long as it continues, is a conversation of turns
   abbrev pub DialoguesAreTurns : Type 0
   DialoguesAreTurns = (first now : ClientSide A K) (heard said : List Packet)
-      → Answered (λ side. session_judge side.session) (λ side. session_brings side.session) OpensFresh
+      → Answered (λ side. session_judge side.client.session) (λ side. session_brings side.client.session) OpensFresh
       (AnswersMessage indexes index_fails keeps) RefusesMessage first heard said now
       → IsTalk first heard said now

@@ -150,7 +150,7 @@ fn finish<A: Allocator + Copy, K: KeepingIndexer<A>>(
 ) -> Result<Fetched<A>, FetchFault<A>>
     ensures fetches { (start : Start A) (input : Input) (output : Output)
         → EndsTalk K.indexes K.index_fails start input output side.old driven
-        → FetchesOver K.indexes K.index_fails start input output side.new.repo result }
+        → FetchesOver K.indexes K.index_fails start input output side.new.client.repo result }
     ensures bound { (start : Start A) (input : Input) (output : Output)
         → EndsTalk K.indexes K.index_fails start input output side.old driven
         → IsConnectedRepo start.repo
@@ -158,7 +158,7 @@ fn finish<A: Allocator + Copy, K: KeepingIndexer<A>>(
         → CountsReached start.repo.graph.entries (tips_of start.repo) held parents
         → fetched.requests ≤ held + 1) }
     ensures indexer { KeepsIndexer side.old side.new }
-    ensures graph { side.new.repo.graph.entries ≡ side.old.repo.graph.entries }
+    ensures graph { side.new.client.repo.graph.entries ≡ side.old.client.repo.graph.entries }
 {
     // Laws that the proof uses.
     distinct_are_once();
@@ -168,7 +168,7 @@ fn finish<A: Allocator + Copy, K: KeepingIndexer<A>>(
         Err(_) => Err(FetchFault::WriteFailed),
         Ok(_) => match side.take_fault() {
             Some(fault) => Err(FetchFault::Client(fault)),
-            None => side.settle(),
+            None => side.client.settle(),
         },
     }
 }

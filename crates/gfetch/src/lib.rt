@@ -49,7 +49,9 @@
 //!
 //! # Only tested
 //!
-//! Nothing is tested, because no program of this repository uses this crate.
+//! No call reports out of memory while enough memory is available. The program `conformance`
+//! repeats many fetches and listings through `gclient`, `gcmd` and `gtcp`, and each time makes a
+//! different allocation fail.
 //!
 //! # What the contracts do not rule out
 //!
@@ -57,8 +59,8 @@
 //!   requests. Only the contract of [`fetch_over_with`] does.
 //! - Any message or request may fail with out of memory although memory is available.
 //! - The indexer may keep further objects, for example those of a rejected pack.
-//! - No contract bounds the time of an answer. Each request for objects starts a new walk at the
-//!   tips.
+//! - No contract bounds the time of an answer. The requests for objects share one walk from the tips
+//!   (`src/client.rt`), but a new walk for each request would satisfy the contracts, too.
 //! - A call may queue only one packet, or no packet. An answer may be flushed more than once.
 //! - If a source or a sink does not record its bytes, the contracts say nothing about the bytes read
 //!   or written. They still state the outcome, and whether the source or the sink failed.
@@ -72,6 +74,7 @@
 #![tactic(auto)]
 
 mod asking;
+mod client;
 mod fault;
 mod fetched;
 mod fetching;

@@ -1,7 +1,7 @@
 //! The client's end of a dialogue (gitprotocol-v2(5), "Capability Advertisement" and "Command
 //! Request").
 
-ghost use Rattle.std.specs.Prelude.{◌≡◌, ◌≢◌, ◌<◌, ◌⊎◌, Bool, IfOk, List, None, Some};
+ghost use Rattle.std.specs.Prelude.{◌≡◌, ◌≢◌, ◌<◌, ◌⊎◌, Bool, List, None, Some};
 ghost use Rattle.std.specs.Option.{option_copied};
 ghost use Rattle.gpkt.specs.Packets.{Packet};
 ghost use Rattle.ggrammar.specs.Grammar.{IsWhole};
@@ -11,18 +11,16 @@ ghost use Rattle.glsreply.specs.steps.ReplyState.{Holds};
 ghost use Rattle.gfetchreply.specs.FetchReplies as fetch;
 ghost use Rattle.grequest.specs.Asked.{Fetches, FetchAsked, Ls, LsRefsAsked};
 ghost use Rattle.gsession.specs.Readers.{HoldsObjects};
-ghost use Rattle.gsession.specs.Sessions.{IsBegun, IsSession};
+ghost use Rattle.gsession.specs.Sessions.{IsBegun};
 ghost use Rattle.gsession.specs.TakingReplies.{Awaits, reading_for};
-ghost use Rattle.gsession.specs.declared.stage.Stage.TheVariants.{Over, Settling};
+ghost use Rattle.gsession.specs.declared.stage.Stage.TheVariants.{Over};
 ghost use Rattle.gdialogue.specs.Sides.{MayAnswer, SaysExactly};
-ghost use Rattle.gfetch.specs.Fetching.{AcceptsReply, AnswersAdvert, DeclinesReply, GoesOn, KeepsIndexer, KeepsObjects, MismatchesAdvert, client_of, messages_of};
+ghost use Rattle.gfetch.specs.Fetching.{AcceptsReply, AnswersAdvert, DeclinesReply, GoesOn, KeepsIndexer, KeepsObjects, MismatchesAdvert, messages_of};
 ghost use Rattle.gfetch.specs.Saying.{reply_rest};
-ghost use Rattle.gfetch.specs.steps.Accepting.{AcceptsAdvert, AcceptsObjects, AcceptsRefs, IsReady, KeepsRest};
-ghost use Rattle.gfetch.specs.steps.Ending.{SettlesFetch};
+ghost use Rattle.gfetch.specs.steps.Accepting.{KeepsRest};
 
 use crate::asking::ClientReply;
-use crate::fault::FetchFault;
-use crate::fetched::Fetched;
+use crate::client::Client;
 use crate::heard::Heard;
 use gclientrepo::Repo;
 use gdialogue::{Answer, Side};
@@ -45,11 +43,8 @@ use std::mem;
 /// message is refused or rejected, the client sends nothing more, and stores the fault.
 #[derive(Drop)]
 pub struct ClientSide<'k, A: Allocator + Copy, K> {
-    repo: Repo<A>,
-    session: Session<A>,
+    pub(crate) client: Client<A>,
     indexer: &'k mut K,
-    // The ref that the server's unborn `HEAD` points at, if a refspec fetches `HEAD`.
-    unborn: Option<RefName<A>>,
     fault: Option<ClientFault<A>>,
 }
 
@@ -57,34 +52,32 @@ impl<'k, A: Allocator + Copy, K> ClientSide<'k, A, K> {
     /// Returns a client side that has received no message. The session must have begun on this
     /// repository, and must not have received an advertisement.
     pub fn new(repo: Repo<A>, session: Session<A>, indexer: &'k mut K) -> ClientSide<'k, A, K>
-        ensures repo { result.repo ≡ repo }
-        ensures session { result.session ≡ session }
+        ensures repo { result.client.repo ≡ repo }
+        ensures session { result.client.session ≡ session }
         ensures indexer { result.indexer.now ≡ indexer.old }
         ensures in_place { result.indexer.ghost_name ≡ indexer.entry.ghost_name }
-        ensures unborn { result.unborn ≡ None }
+        ensures unborn { result.client.unborn ≡ None }
         ensures fault { result.fault ≡ None }
     {
         ClientSide {
-            repo,
-            session,
+            client: Client::new(repo, session),
             indexer,
-            unborn: None,
             fault: None,
         }
     }
 
     /// Returns the repository, with the objects received so far.
     pub fn repo(&self) -> &Repo<A>
-        ensures { result.now ≡ self.now.repo }
+        ensures { result.now ≡ self.now.client.repo }
     {
-        &self.repo
+        self.client.repo()
     }
 
     /// Returns the session.
     pub fn session(&self) -> &Session<A>
-        ensures { result.now ≡ self.now.session }
+        ensures { result.now ≡ self.now.client.session }
     {
-        &self.session
+        self.client.session()
     }
 
     /// Returns the fault that ended the dialogue, or `None`.
@@ -105,29 +98,28 @@ impl<'k, A: Allocator + Copy, K> ClientSide<'k, A, K> {
         Option<RefName<A>>,
         Option<ClientFault<A>>,
     )
-        ensures repo { result.0 ≡ self.entry.repo }
-        ensures session { result.1 ≡ self.entry.session }
+        ensures repo { result.0 ≡ self.entry.client.repo }
+        ensures session { result.1 ≡ self.entry.client.session }
         ensures indexer { result.2.now ≡ self.entry.indexer.now }
         ensures in_place { result.2.ghost_name ≡ self.entry.indexer.ghost_name }
-        ensures unborn { result.3 ≡ self.entry.unborn }
+        ensures unborn { result.3 ≡ self.entry.client.unborn }
         ensures fault { result.4 ≡ self.entry.fault }
     {
         let ClientSide {
-            repo,
-            session,
+            client,
             indexer,
-            unborn,
             fault,
         } = self;
+        let (repo, session, unborn) = client.into_parts();
         (repo, session, indexer, unborn, fault)
     }
 
     /// Exchanges the repository of the side with another repository.
     pub(crate) fn swap_repo(&mut self, repo: &mut Repo<A>)
-        ensures repo { repo.new ≡ self.old.repo }
+        ensures repo { repo.new ≡ self.old.client.repo }
         ensures indexer { KeepsIndexer self.old self.new }
     {
-        mem::swap(&mut self.repo, repo);
+        self.client.swap_repo(repo);
     }
 
     /// Consumes the side, and returns only the indexer.
@@ -136,10 +128,8 @@ impl<'k, A: Allocator + Copy, K> ClientSide<'k, A, K> {
         ensures in_place { result.ghost_name ≡ self.entry.indexer.ghost_name }
     {
         let ClientSide {
-            repo: _repo,
-            session: _session,
+            client: _client,
             indexer,
-            unborn: _unborn,
             fault: _fault,
         } = self;
         indexer
@@ -148,114 +138,37 @@ impl<'k, A: Allocator + Copy, K> ClientSide<'k, A, K> {
     /// Removes the fault that ended the dialogue, and returns it.
     pub(crate) fn take_fault(&mut self) -> Option<ClientFault<A>>
         ensures fault { result ≡ self.old.fault }
+        ensures client { self.new.client ≡ self.old.client }
         ensures stays { KeepsRest self.old self.new }
-        ensures session { self.new.session ≡ self.old.session }
-        ensures unborn { self.new.unborn ≡ self.old.unborn }
     {
         mem::replace(&mut self.fault, None)
-    }
-
-    /// Updates the local refs after the conversation. Fails if the session can't update the refs.
-    pub(crate) fn settle(&mut self) -> Result<Fetched<A>, FetchFault<A>>
-        ensures settles { self.old.session.stage ≡ Settling
-            → SettlesFetch self.old.session self.old.repo self.old.unborn self.new.repo result }
-        ensures well { IsSession self.old.session }
-        ensures indexer { KeepsIndexer self.old self.new }
-        ensures graph { self.new.repo.graph.entries ≡ self.old.repo.graph.entries }
-    {
-        let requests = self.session.rounds();
-        let settled = self.session.settle(&mut self.repo)?;
-        let unborn = mem::replace(&mut self.unborn, None);
-        Ok(Fetched {
-            settled,
-            requests,
-            unborn,
-        })
     }
 
     // Stores the fault, and ends the dialogue without a further packet.
     fn fail(&mut self, fault: ClientFault<A>) -> Answer<ClientReply<A>>
         ensures fault { self.new.fault ≡ Some fault }
+        ensures client { self.new.client ≡ self.old.client }
         ensures stays { KeepsRest self.old self.new }
-        ensures session { self.new.session ≡ self.old.session }
-        ensures unborn { self.new.unborn ≡ self.old.unborn }
         ensures silent { result ≡ Answer.Last ClientReply.Silence }
     {
         self.fault = Some(fault);
         Answer::Last(ClientReply::Silence)
     }
-
-    // Applies the advertisement. Fails if the client does not support the server.
-    fn accept_advert(&mut self, advert: &Advert<A>) -> Result<(), ClientFault<A>>
-        ensures accepts { AcceptsAdvert self.old.session advert.now self.new.session result }
-        ensures stays { KeepsRest self.old self.new }
-        ensures unborn { self.new.unborn ≡ self.old.unborn }
-        ensures fault { self.new.fault ≡ self.old.fault }
-    {
-        match advert.check_in(self.session.format()) {
-            Ok(()) => self.session.hear(advert),
-            Err(fault) => Err(self.session.refuse(fault)),
-        }
-    }
-
-    // Applies the reply to an ls-refs request.
-    fn accept_refs(&mut self, reader: LsReplyReader<A>) -> Result<(), ClientFault<A>>
-        ensures accepts { (asked : LsRefsAsked) (lines : List Packet)
-            → self.old.session.pending ≡ Some (Ls asked) → Holds reader lines
-            → IsWhole (ls.judge self.old.session.format self.old.session.ends) lines
-            → AcceptsRefs (client_of self.old) lines (client_of self.new) result }
-        ensures ready { IfOk result (λ done. IsReady self.old.session self.new.session) }
-        ensures stays { KeepsRest self.old self.new }
-        ensures fault { self.new.fault ≡ self.old.fault }
-    {
-        let reply = match reader.into_reply(self.session.format()) {
-            Some(reply) => reply,
-            None => return Err(ClientFault::NoOpenRequest),
-        };
-        match self.session.accept_refs(&self.repo, &reply) {
-            Ok(taken) => {
-                self.unborn = taken.unborn;
-                Ok(())
-            }
-            Err(fault) => Err(fault),
-        }
-    }
 }
 
 impl<'k, A: Allocator + Copy, K: KeepingIndexer<A>> ClientSide<'k, A, K> {
-    // Applies the reply to a request for objects.
-    fn accept_objects(&mut self, reader: ObjectsReader<K::Feed, A>) -> Result<(), ClientFault<A>>
-        ensures accepts { (asked : FetchAsked) (lines : List Packet)
-            → Awaits self.old.session asked
-            → HoldsObjects K.fed K.index_fails (reading_for self.old.session asked) reader lines
-            → IsWhole (fetch.judge (reading_for self.old.session asked)) lines
-            → AcceptsObjects K.indexes K.index_fails asked (client_of self.old) lines
-            (client_of self.new) result }
-        ensures ready { IfOk result (λ done. IsReady self.old.session self.new.session) }
-        ensures keeps { KeepsObjects K.keeps self.old self.new }
-        ensures fault { self.new.fault ≡ self.old.fault }
-    {
-        match self
-            .session
-            .accept_objects(&mut self.repo, &mut *self.indexer, reader)
-        {
-            Ok(_taken) => Ok(()),
-            Err(fault) => Err(fault),
-        }
-    }
-
     // Answers the advertisement.
     fn answer_advert(&mut self, advert: &Advert<A>) -> Answer<ClientReply<A>>
         ensures answers { (lines said : List Packet) (goes : Bool)
-            → adverts.Says lines advert.now → IsBegun self.old.session
+            → adverts.Says lines advert.now → IsBegun self.old.client.session
             → MayAnswer (SaysExactly reply_rest) result said goes
             → AnswersAdvert self.old self.new lines said goes
             ⊎ MismatchesAdvert self.old self.new lines said goes }
         ensures fewer { (reply : ClientReply A) → result ≡ Answer.GoesOn reply
-            → messages_of self.new.session < messages_of self.old.session }
+            → messages_of self.new.client.session < messages_of self.old.client.session }
         ensures stays { KeepsRest self.old self.new }
     {
-        match self.accept_advert(advert) {
+        match self.client.accept_advert(advert) {
             Ok(()) => self.ask_next(),
             Err(fault) => self.fail(fault),
         }
@@ -264,18 +177,18 @@ impl<'k, A: Allocator + Copy, K: KeepingIndexer<A>> ClientSide<'k, A, K> {
     // Answers the reply to an ls-refs request.
     fn answer_refs(&mut self, reader: LsReplyReader<A>) -> Answer<ClientReply<A>>
         ensures answers { (asked : LsRefsAsked) (lines said : List Packet) (goes : Bool)
-            → self.old.session.pending ≡ Some (Ls asked) → Holds reader lines
-            → IsWhole (ls.judge self.old.session.format self.old.session.ends) lines
+            → self.old.client.session.pending ≡ Some (Ls asked) → Holds reader lines
+            → IsWhole (ls.judge self.old.client.session.format self.old.client.session.ends) lines
             → MayAnswer (SaysExactly reply_rest) result said goes
             → AcceptsReply K.indexes K.index_fails
             (Ls asked) self.old self.new lines said goes
             ⊎ DeclinesReply K.indexes K.index_fails
             (Ls asked) self.old self.new lines said goes }
         ensures fewer { (reply : ClientReply A) → result ≡ Answer.GoesOn reply
-            → messages_of self.new.session < messages_of self.old.session }
+            → messages_of self.new.client.session < messages_of self.old.client.session }
         ensures stays { KeepsRest self.old self.new }
     {
-        match self.accept_refs(reader) {
+        match self.client.accept_refs(reader) {
             Ok(()) => self.ask_next(),
             Err(fault) => self.fail(fault),
         }
@@ -284,18 +197,19 @@ impl<'k, A: Allocator + Copy, K: KeepingIndexer<A>> ClientSide<'k, A, K> {
     // Answers the reply to a request for objects.
     fn answer_objects(&mut self, reader: ObjectsReader<K::Feed, A>) -> Answer<ClientReply<A>>
         ensures answers { (asked : FetchAsked) (lines said : List Packet) (goes : Bool)
-            → Awaits self.old.session asked
-            → HoldsObjects K.fed K.index_fails (reading_for self.old.session asked) reader lines
-            → IsWhole (fetch.judge (reading_for self.old.session asked)) lines
+            → Awaits self.old.client.session asked
+            → HoldsObjects K.fed K.index_fails (reading_for self.old.client.session asked) reader
+            lines
+            → IsWhole (fetch.judge (reading_for self.old.client.session asked)) lines
             → MayAnswer (SaysExactly reply_rest) result said goes
             → AcceptsReply K.indexes K.index_fails (Fetches asked) self.old self.new lines said goes
             ⊎ DeclinesReply K.indexes K.index_fails (Fetches asked) self.old self.new lines said
             goes }
         ensures fewer { (reply : ClientReply A) → result ≡ Answer.GoesOn reply
-            → messages_of self.new.session < messages_of self.old.session }
+            → messages_of self.new.client.session < messages_of self.old.client.session }
         ensures keeps { KeepsObjects K.keeps self.old self.new }
     {
-        match self.accept_objects(reader) {
+        match self.client.accept_objects(&mut *self.indexer, reader) {
             Ok(()) => self.ask_next(),
             Err(fault) => self.fail(fault),
         }
@@ -303,21 +217,22 @@ impl<'k, A: Allocator + Copy, K: KeepingIndexer<A>> ClientSide<'k, A, K> {
 
     // Returns the next request, or the lone flush packet if the client needs nothing more.
     fn ask_next(&mut self) -> Answer<ClientReply<A>>
-        ensures goes { self.old.session.pending ≡ None → self.old.session.stage ≢ Over
+        ensures goes { self.old.client.session.pending ≡ None → self.old.client.session.stage ≢ Over
             → (said : List Packet) (goes : Bool) → MayAnswer (SaysExactly reply_rest) result said goes
-            → GoesOn (client_of self.old) self.old.fault self.new said goes }
+            → GoesOn self.old.client self.old.fault self.new said goes }
         ensures fewer { (reply : ClientReply A) → result ≡ Answer.GoesOn reply
-            → messages_of self.new.session < messages_of self.old.session }
+            → messages_of self.new.client.session < messages_of self.old.client.session }
         ensures stays { KeepsRest self.old self.new }
     {
-        let format = self.session.format();
-        if !self.session.is_due() {
+        let session = self.client.session();
+        let format = session.format();
+        if !session.is_due() {
             return Answer::Last(ClientReply::request(Request::Empty, format));
         }
-        match self.session.request(&self.repo) {
+        match self.client.request() {
             Ok(request) => {
                 // Laws that the proof uses.
-                let _rounds = self.session.rounds();
+                let _rounds = self.client.session().rounds();
                 Answer::GoesOn(ClientReply::request(request, format))
             }
             Err(fault) => self.fail(fault),
@@ -330,12 +245,13 @@ impl<'k, A: Allocator + Copy, K: KeepingIndexer<A>> Side<Heard<A, K::Feed>, Clie
     ghost use Rattle.gfetch.specs.Fetching.{AnswersMessage, OpensFresh, RefusesMessage, messages_of};
     ghost use Rattle.gfetch.specs.Heard.{HearsAfter, session_brings, session_judge};
 
-    ghost judge = { λ side. session_judge side.session };
+    ghost judge = { λ side. session_judge side.client.session };
 
-    ghost brings = { λ side. session_brings side.session };
+    ghost brings = { λ side. session_brings side.client.session };
 
     ghost hears = { λ side message packets.
-        HearsAfter side.session K.fed K.index_fails side.session.pending message packets };
+        HearsAfter side.client.session K.fed K.index_fails side.client.session.pending message
+        packets };
 
     ghost opens = { OpensFresh };
 
@@ -343,15 +259,16 @@ impl<'k, A: Allocator + Copy, K: KeepingIndexer<A>> Side<Heard<A, K::Feed>, Clie
 
     ghost refuses = { RefusesMessage };
 
-    ghost messages = { λ side. messages_of side.session };
+    ghost messages = { λ side. messages_of side.client.session };
 
     fn message(&self) -> Heard<A, K::Feed> {
-        if let Some(reader) = self.session.refs_reader() {
+        let session = self.client.session();
+        if let Some(reader) = session.refs_reader() {
             return Heard::Refs(reader);
         }
-        match self.session.objects_reader(&*self.indexer) {
+        match session.objects_reader(&*self.indexer) {
             Some(reader) => Heard::Objects(reader),
-            None => Heard::Advert(AdvertReader::new(self.repo.graph().allocator())),
+            None => Heard::Advert(AdvertReader::new(self.client.repo().graph().allocator())),
         }
     }
 
@@ -375,7 +292,7 @@ impl<'k, A: Allocator + Copy, K: KeepingIndexer<A>> Side<Heard<A, K::Feed>, Clie
     }
 
     fn refuse(&mut self, fault: MessageFault) -> ClientReply<A> {
-        let fault = self.session.refuse(fault);
+        let fault = self.client.refuse(fault);
         self.fault = Some(fault);
         ClientReply::Silence
     }

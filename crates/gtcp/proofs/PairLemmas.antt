@@ -6,9 +6,9 @@ use Rattle.gfetchreply.specs.Values.{default_limit}
 use Rattle.gpkt.specs.Sending.{Input, Output}
 use Rattle.grefs.specs.Refspecs.{Refspec}
 use Rattle.gclientrepo.specs.Repos.{RepoState}
-use Rattle.gclient.specs.Conversations.{start_of}
-use Rattle.gclient.specs.declared.fault.FetchFault.{FetchFault}
-use Rattle.gclient.specs.declared.fetched.Fetched.{Fetched}
+use Rattle.gfetch.specs.Starts.{start_of}
+use Rattle.gfetch.specs.declared.fault.FetchFault.{FetchFault}
+use Rattle.gfetch.specs.declared.fetched.Fetched.{Fetched}
 use Rattle.gclient.specs.GitFetches.{FetchesGit}
 use Rattle.gcmd.specs.Fetching.{plain_index_fails, plain_indexes}
 use Rattle.gcmd.specs.declared.fault.ProgramFault.{ProgramFault}

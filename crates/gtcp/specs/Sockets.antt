@@ -19,10 +19,10 @@ use Rattle.gserve.specs.GitConnections.{ServesGit}
 use Rattle.gserve.specs.declared.git_transport.GitEnd.{GitEnd}
 use Rattle.gserve.specs.declared.git_transport.GitEnd.TheVariants as git
 use Rattle.gsession.specs.declared.fault.ClientFault.TheVariants as client
-use Rattle.gclient.specs.Conversations.{Start}
-use Rattle.gclient.specs.declared.fault.FetchFault.{FetchFault}
-use Rattle.gclient.specs.declared.fault.FetchFault.TheVariants as fetch
-use Rattle.gclient.specs.declared.fetched.Fetched.{Fetched}
+use Rattle.gfetch.specs.Starts.{Start}
+use Rattle.gfetch.specs.declared.fault.FetchFault.{FetchFault}
+use Rattle.gfetch.specs.declared.fault.FetchFault.TheVariants as fetch
+use Rattle.gfetch.specs.declared.fetched.Fetched.{Fetched}
 use Rattle.gclient.specs.GitFetches.{FetchesGit}
 use Rattle.gclient.specs.Listings.{ListsGit}
 use Rattle.gcmd.specs.Programs.{ProgramOutcome}

@@ -8,7 +8,7 @@ ghost use Rattle.gclientrepo.specs.Repos.{IsConnectedRepo};
 ghost use Rattle.gclientrepo.specs.Settling.{Settles};
 ghost use Rattle.gsession.specs.Keeping.{KeepsOn};
 ghost use Rattle.gsession.specs.Sessions.{tips_of};
-ghost use Rattle.gclient.specs.Conversations.{start_for, start_of};
+ghost use Rattle.gfetch.specs.Starts.{start_for, start_of};
 ghost use Rattle.gtcp.specs.steps.Sockets.{FetchesBetween, ListsBetween};
 ghost use Rattle.gtcp.specs.Sockets.{FetchesFrom, FetchesOn, ListsFrom, ListsOn};
 ghost use Rattle.gtcp.specs.steps.Remote.{MakesRequest};

@@ -4,7 +4,7 @@ use Rattle.gpkt.specs.Packets.{Bytes}
 use Rattle.gpkt.specs.Sending.{Output, IsUnwritten}
 use Rattle.glockfile.specs.Storing.{Holds}
 use Rattle.glockfile.specs.declared.storage.StorageFault.{StorageFault}
-use Rattle.gclient.specs.declared.fetched.Fetched.{Fetched}
+use Rattle.gfetch.specs.declared.fetched.Fetched.{Fetched}
 use Rattle.gcmd.specs.Fetching.{Reports}
 use Rattle.gcmd.specs.Printing.{fault_line}
 use Rattle.gcmd.specs.Programs.{ProgramOutcome, Prints}

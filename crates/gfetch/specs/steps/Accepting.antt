@@ -16,7 +16,7 @@ use Rattle.gfetch.specs.declared.side.ClientSide.{ClientSide}
 -- the indexer and the repository are unchanged
 pub record KeepsRest {A K : Type 0} (old new : ClientSide A K) : Type 0 where
   pub indexer : KeepsIndexer old new
-  pub repo : new.repo ≡ old.repo
+  pub repo : new.client.repo ≡ old.client.repo
 
 -- the session is ready for its next request or for its end, and not more messages remain than before
 pub record IsReady {A : Type 0} (old new : SessionState A) : Type 0 where

@@ -7,7 +7,7 @@ use Rattle.ggrammar.specs.declared.fault.MessageFault.{MessageFault}
 use Rattle.gobject.specs.Packs.{PackFails, Packs}
 use Rattle.grequest.specs.Building.{LimitedLsRefs}
 use Rattle.ganswer.specs.Servers.{Server}
-use Rattle.gclient.specs.declared.fault.FetchFault.{FetchFault}
+use Rattle.gfetch.specs.declared.fault.FetchFault.{FetchFault}
 use Rattle.gcmd.specs.Printing.{fault_line}
 use Rattle.gcmd.specs.Programs.{ProgramOutcome}
 use Rattle.gcmd.specs.declared.fault.ProgramFault.{ProgramFault}

@@ -12,9 +12,9 @@ use Rattle.grequest.specs.Asked.{LsRefsAsked}
 use Rattle.ganswer.specs.Servers.{Server}
 use Rattle.gserve.specs.GitConnections.{ServesGit}
 use Rattle.gserve.specs.declared.git_transport.GitEnd.{GitEnd}
-use Rattle.gclient.specs.Conversations.{Start}
-use Rattle.gclient.specs.declared.fault.FetchFault.{FetchFault}
-use Rattle.gclient.specs.declared.fetched.Fetched.{Fetched}
+use Rattle.gfetch.specs.Starts.{Start}
+use Rattle.gfetch.specs.declared.fault.FetchFault.{FetchFault}
+use Rattle.gfetch.specs.declared.fetched.Fetched.{Fetched}
 use Rattle.gclient.specs.GitFetches.{FetchesGit}
 use Rattle.gclient.specs.Listings.{ListsGit}
 

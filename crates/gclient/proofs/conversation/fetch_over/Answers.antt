@@ -1,7 +1,8 @@
 use Rattle.std.proofs.Common.{ℕ, subst}
 use Rattle.gpkt.specs.Sending.{input_of, output_of}
 use Rattle.gsession.specs.declared.options.PackOptions.{PackOptions}
-use Rattle.gclient.specs.Conversations.{FetchesOver, start_for, start_of}
+use Rattle.gfetch.specs.Conversations.{FetchesOver}
+use Rattle.gfetch.specs.Starts.{start_for, start_of}
 use Rattle.gclient.proofs.conversation.fetch_over.Goals as goal
 
 pub returns-clause-fetches : goal.returns-clause-fetches

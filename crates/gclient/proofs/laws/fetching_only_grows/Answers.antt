@@ -1,4 +1,4 @@
-use Rattle.gclient.proofs.TalkLemmas.{over_grows, over_keeps_refs}
+use Rattle.gfetch.proofs.KeptLemmas.{over_grows, over_keeps_refs}
 use Rattle.gclient.proofs.laws.fetching_only_grows.Goals as goal
 
 pub returns-clause-grows : goal.returns-clause-grows

@@ -1,5 +1,5 @@
 use Rattle.ggrammar.proofs.PassingLemmas.{push_goes_on, write_fails}
-use Rattle.gclient.proofs.StepLemmas.{passed_pushed}
+use Rattle.gclient.proofs.SendLemmas.{passed_pushed}
 use Rattle.gclient.proofs.send.send_request.Goals as goal
 
 pub returns-in-Ok-clause-sent : goal.returns-in-Ok-clause-sent

@@ -48,7 +48,7 @@ returns-clause-fetches g c =
     (c.new-side.ensures.repo ∙ c.replace.ensures.value) c.new-side.ensures.session c.in_ok-session.ensures.1 in
     subst (λ (r : RepoState g.row.A.Denot). FetchesOver indexes fails
     (start_for c.args.repo.now plan.specs.now plan.limit plan.ends plan.options) input output r c.finish-fetched.result) (sym c.swap_repo.ensures.repo)
-    (subst (λ (s : Start g.row.A.Denot). FetchesOver indexes fails s input output c.finish-fetched.new.side.repo c.finish-fetched.result) same
+    (subst (λ (s : Start g.row.A.Denot). FetchesOver indexes fails s input output c.finish-fetched.new.side.client.repo c.finish-fetched.result) same
     (c.finish-fetched.ensures.fetches (start_of_side c.new-side.result) input output c.talk-driven.ensures.ends))
 
 pub returns-clause-bound : goal.returns-clause-bound
@@ -69,7 +69,7 @@ returns-clause-keeps g c =
     sym (c.into_indexer-indexer.ensures.in_place ∙ (c.swap_repo.ensures.indexer.in_place
     ∙ (c.finish-fetched.ensures.indexer.in_place ∙ (c.talk-driven.ensures.keeps.in_place ∙ c.new-side.ensures.in_place)))) in
     keeps_to g.K.KeepingIndexer.keeps c.args.indexer.now c.new-side.result.indexer.now c.talk-driven.result.1.indexer.now c.indexer-1.given.0
-    c.args.repo.now.graph.entries c.new-side.result.repo.graph.entries c.talk-driven.result.1.repo.graph.entries c.swap_repo.new.repo.graph.entries
+    c.args.repo.now.graph.entries c.new-side.result.client.repo.graph.entries c.talk-driven.result.1.client.repo.graph.entries c.swap_repo.new.repo.graph.entries
     c.new-side.ensures.indexer
     (c.indexer-1.given.1 name
     ∙ (c.into_indexer-indexer.ensures.value ∙ (c.swap_repo.ensures.indexer.value ∙ c.finish-fetched.ensures.indexer.value)))

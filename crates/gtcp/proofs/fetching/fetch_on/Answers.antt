@@ -1,7 +1,7 @@
 use Rattle.std.proofs.Common.{ℕ, inl, subst}
 use Rattle.ghello.specs.Hello.{Hello, IsHello}
 use Rattle.gsession.specs.declared.options.PackOptions.{PackOptions}
-use Rattle.gclient.specs.Conversations.{start_for, start_of}
+use Rattle.gfetch.specs.Starts.{start_for, start_of}
 use Rattle.gtcp.specs.Sockets.{FetchesFrom}
 use Rattle.gtcp.proofs.fetching.fetch_on.Goals as goal
 

@@ -2,7 +2,7 @@ use Rattle.std.proofs.Common.{subst}
 use Rattle.ggrammar.specs.declared.ends.Ends.TheVariants.{Plain}
 use Rattle.gpkt.specs.Sending.{input_of, output_of}
 use Rattle.gsession.specs.declared.options.PackOptions.{PackOptions}
-use Rattle.gclient.specs.Conversations.{start_for}
+use Rattle.gfetch.specs.Starts.{start_for}
 use Rattle.gclient.specs.GitFetches.{FetchesGit}
 use Rattle.gcmd.specs.Fetching.{plain_index_fails, plain_indexes}
 use Rattle.gtcp.proofs.PairLemmas.{fetched_as_client}

@@ -1,7 +1,7 @@
 use Rattle.std.proofs.Common.{ℕ, Ok, Err, refl, subst}
 use Rattle.ghello.specs.Hello.{Hello}
 use Rattle.gsession.specs.declared.options.PackOptions.{PackOptions}
-use Rattle.gclient.specs.Conversations.{start_for, start_of}
+use Rattle.gfetch.specs.Starts.{start_for, start_of}
 use Rattle.gcmd.specs.Fetching.{plain_index_fails, plain_indexes}
 use Rattle.gtcp.specs.Sockets.{FetchesFrom}
 use Rattle.gtcp.proofs.remote.fetch_at.Goals as goal

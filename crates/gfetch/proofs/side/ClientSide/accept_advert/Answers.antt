@@ -1,9 +1,0 @@
-use Rattle.gfetch.proofs.SideLemmas.{advert_heard}
-use Rattle.std.proofs.Common.{◌≡◌, None, subst}
-use Rattle.ghello.specs.Offers.{check_fault}
-use Rattle.gfetch.proofs.side.ClientSide.accept_advert.Goals as goal
-
-pub returns-in-Ok-clause-accepts : goal.returns-in-Ok-clause-accepts
-returns-in-Ok-clause-accepts g c =
-    advert_heard c.args.self.now.session c.hear.new.self c.args.advert.now c.hear.result
-    (subst (λ f. check_fault f c.args.advert.now ≡ None) c.format.ensures c.in-Ok.ensures) c.hear.ensures
