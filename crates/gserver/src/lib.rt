@@ -40,6 +40,21 @@
 //! - Each call to [`Reply::say`](gdialogue::Reply) decreases the number of remaining steps, so
 //!   every reply ends. A connection ends after at most 4,294,967,296 requests.
 //! - An [`ErrText`] stores the first bytes of a text, as many as fit.
+//! - [`serve`] serves a whole connection over a blocking source and a blocking sink, without a first
+//!   line (`specs/Conversations.antt`). It writes the advertisement, and then runs a dialogue with
+//!   the borrowed server and packer. It reads nothing after the last packet of a request. The
+//!   advertisement and each reply are flushed before anything more is read.
+//! - [`serve`] sends no packet if the client sends a lone flush packet, or if the input ends before
+//!   a request. It ends after [`MAX_REQUESTS`] requests. The first refused request ends the
+//!   connection with an error packet. A fault of the packer is reported before any packet of the
+//!   reply. If the sink fails, a prefix of the next message was written.
+//! - The field [`Served::requests`](Served) is the number of flushed replies. The [`OnePack`]
+//!   records the last result of the packer (`specs/Packings.antt`).
+//! - [`serve_one`] has the same contract for one request, without an advertisement
+//!   (`specs/Exchanges.antt`).
+//! - [`serve_git`] first reads the first line of a `git://` connection, and continues like [`serve`]
+//!   if the line names the served path (`specs/GitConnections.antt`).
+//! - [`err_text`] writes the text of a fault, at most 128 bytes.
 //! - No call panics, overflows or reads out of bounds, and each call returns.
 //!
 //! # What the contracts do not rule out
@@ -50,6 +65,9 @@
 //! - An error packet for a failed allocation may replace any reply. The connection then ends.
 //! - A call may queue few packets, and may take as long as the packer or the host needs.
 //! - No contract restricts the pack data that the server side sends before a packet on side band 3.
+//! - [`serve`], [`serve_one`] and [`serve_git`] store the whole pack of a reply. If the bytes of a
+//!   source or of a sink are not known, their contracts do not state the bytes read or written. They
+//!   may report out of memory even if there is enough memory.
 //!
 //! # Only tested
 //!
@@ -65,26 +83,37 @@
 //! `gobject` defines the faults of packers, and `arrayvec` stores texts of bounded length.
 #![tactic(auto)]
 
+mod advertising;
 mod cursor;
-mod err_text;
+mod error_line;
+mod error_text;
 mod fetching;
 mod filling;
+mod git_transport;
 mod greeting;
 mod heard;
 mod host;
+mod lent;
+mod lent_side;
 mod listing;
 mod ref_lines;
+mod refusal;
 mod reply;
 mod said;
+mod serving;
 mod side;
 mod speech;
 
-pub use crate::err_text::ErrText;
+pub use crate::error_text::ErrText;
 pub use crate::fetching::speak_fetch;
+pub use crate::git_transport::{Export, GitEnd, hear, serve_git};
 pub use crate::greeting::Greeting;
 pub use crate::heard::Heard;
 pub use crate::host::{Host, ServedRepository};
 pub use crate::listing::Listing;
+pub use crate::refusal::{MAX_ERR_TEXT, err_text};
 pub use crate::reply::ServerReply;
+pub use crate::serving::{End, ExchangeEnd, Served, serve, serve_one};
 pub use crate::side::{MAX_REQUESTS, ServerSide};
 pub use crate::speech::Speech;
+pub use ganswer::{OnePack, ServeFault, Server};
