@@ -1,5 +1,5 @@
 -- The start of a connection: the advertisement, or an error packet in its place.
-use Rattle.std.proofs.Common.{◌≡◌, List, Option, Result, Err, refl, sym, ap, subst, ◌∙◌, inl, inr}
+use Rattle.std.proofs.Common.{◌≡◌, ◌<◌, ◌∙◌, ℕ, List, Option, None, Result, Err, refl, sym, ap, subst, arith, inl, inr}
 use Rattle.gname.specs.declared.formats.Format.{Format}
 use Rattle.gpkt.specs.Sending.{Input, Output, IsUnread, Passes}
 use Rattle.gpkt.specs.Packets.{canonical_all}
@@ -9,7 +9,7 @@ use Rattle.ggrammar.specs.declared.ends.Ends.{Ends}
 use Rattle.ghello.specs.Adverts.{canonical_advert}
 use Rattle.gobject.specs.Packs.{PackFails, Packs}
 use Rattle.ganswer.specs.Adverts.{advertisement}
-use Rattle.ganswer.specs.OnePack.{packing_of_fault}
+use Rattle.ganswer.specs.OnePack.{OnePack, packing_of_fault}
 use Rattle.ganswer.specs.Servers.{Server}
 use Rattle.ganswer.specs.declared.fault.ServeFault.{ServeFault}
 use Rattle.ganswer.specs.declared.fault.ServeFault.TheVariants as serve
@@ -24,7 +24,9 @@ use Rattle.gserver.specs.declared.serving.End.{End}
 use Rattle.gserver.specs.declared.serving.End.TheVariants as end
 use Rattle.gserver.specs.declared.serving.ExchangeEnd.{ExchangeEnd}
 use Rattle.gserver.specs.declared.serving.ExchangeEnd.TheVariants as exchange
+use Rattle.gserver.specs.declared.lent_side.LentSide.{LentSide}
 use Rattle.gserver.specs.steps.Connections.{Advertises, PassesPackets, RefusesFirst, ReportsRefusal}
+use Rattle.gserver.specs.steps.Lending.{IsFresh}
 
 -- writing the advertised capabilities is writing the advertisement
 pub sent_advert : {E : Type 0} (format : Format) (capabilities : List Capability) (output : Output) (result : Result (Unit {0}) E)
@@ -86,3 +88,16 @@ pub unadvertised_packing : (format : Format) (output : Output) (last : End) (ans
 unadvertised_packing format output (end.Refused reported) answered h is = is ∙ ap packing_of_fault (sym h.0)
 unadvertised_packing format output end.WriteFailed answered h is = tt
 unadvertised_packing format output last answered h is = absurd h
+
+-- ---- the side before the first message
+
+pub is_fresh : {A K : Type 0} (side : LentSide A K) (packer : OnePack K) (most : ℕ) → 0 < most → side.packer.now ≡ packer → packer.answered ≡ Unasked
+    → side.requests ≡ 0 → side.most ≡ most → side.closing ≡ None → IsFresh side
+is_fresh {K = K} side packer most some is unasked requests own closing = record {
+  ready = record {
+    unasked = ap (λ (p : OnePack K). p.answered) is ∙ unasked;
+    room = omega (arith, some, requests, own);
+    unclosed = closing;
+  };
+  requests = requests;
+}

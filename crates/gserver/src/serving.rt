@@ -1,11 +1,10 @@
 //! Serving a connection over a blocking source and a blocking sink.
 
 ghost use Rattle.std.specs.Prelude.{◌≡◌};
-ghost use Rattle.gpkt.specs.Packets.{canonical_all};
-ghost use Rattle.gpkt.specs.Sending.{input_of, output_of, Passes};
+ghost use Rattle.gpkt.specs.Sending.{input_of, output_of};
 ghost use Rattle.gobject.specs.Packs.{MayPack};
 ghost use Rattle.ganswer.specs.declared.one_pack.Packing.TheVariants.{Unasked};
-ghost use Rattle.gserver.specs.Conversations.{Serves, advert_packets};
+ghost use Rattle.gserver.specs.Conversations.{Serves};
 ghost use Rattle.gserver.specs.Exchanges.{ServesOne};
 ghost use Rattle.gserver.specs.Packings.{ReportsLastPacking, ReportsPacking};
 ghost use Rattle.gserver.specs.steps.Connections.{ReportsRefusal};
@@ -20,7 +19,6 @@ use gdialogue::run_dialogue;
 use ggrammar::Ends;
 use ggrammar::laws::grammars_are_exact;
 use gobject::Packer;
-use gpkt::laws::{canonical_spells, reads_join};
 use gpkt::{PacketFault, Sink, Source};
 use grequest::laws::endings;
 use gtalk::{Room, TalkFault};
@@ -136,42 +134,16 @@ pub fn serve<S: Source, W: Sink, A: Allocator + Copy, K: Packer<A>>(
         }
     };
     match advertise(server, sink) {
-        Ok(()) => answer_all(server, packer, ends, room, source, sink),
+        Ok(()) => {
+            let side = LentSide::new(server, packer, ends, MAX_REQUESTS);
+            let (driven, side) = talk(side, room, source, sink);
+            let (earlier, requests, closing, _packer) = side.into_parts();
+            Served {
+                requests: flushed_replies(driven, earlier, requests),
+                end: connection_end(driven, closing),
+            }
+        }
         Err(end) => Served { requests: 0, end },
-    }
-}
-
-// Replies to one request after another. The caller has already written and flushed the
-// advertisement.
-fn answer_all<S: Source, W: Sink, A: Allocator + Copy, K: Packer<A>>(
-    server: &Server<A>,
-    packer: &mut OnePack<'_, K>,
-    ends: Ends,
-    room: Room<A>,
-    source: &mut S,
-    sink: &mut W,
-) -> Served
-    requires unasked { packer.old.answered ≡ Unasked }
-    ensures serves { (start : W)
-        → Passes (output_of W.contents W.passed_on W.is_down start sink.old)
-        (canonical_all (advert_packets server.now.graph.format))
-        → Serves server.now (MayPack (K.packs packer.old.packer))
-        (K.pack_fails packer.old.packer) ends
-        (input_of S.remaining S.is_down source.old source.new)
-        (output_of W.contents W.passed_on W.is_down start sink.new) result.requests result.end }
-    ensures packing { ReportsLastPacking result.end packer.new.answered }
-    ensures packer { packer.new.packer ≡ packer.old.packer }
-    ensures source_loans { S.loans source.new ≡ S.loans source.old }
-    ensures sink_loans { W.loans sink.new ≡ W.loans sink.old }
-{
-    // Laws that the proof uses.
-    canonical_spells();
-    let side = LentSide::new(server, packer, ends, MAX_REQUESTS);
-    let (driven, side) = talk(side, room, source, sink);
-    let (earlier, requests, closing, _packer) = side.into_parts();
-    Served {
-        requests: flushed_replies(driven, earlier, requests),
-        end: connection_end(driven, closing),
     }
 }
 
@@ -193,7 +165,6 @@ fn talk<'s, 'p, 'k, S: Source, W: Sink, A: Allocator + Copy, K: Packer<A>>(
     // Laws that the proof uses.
     grammars_are_exact();
     endings();
-    reads_join();
     run_dialogue(side, room, source, sink)
 }
 
