@@ -34,6 +34,7 @@ use ggrammar::{Ends, Message, MessageFault, Step, Why};
 use gobject::Packer;
 use grequest::{FetchRequest, LsRefsRequest, Request, RequestReader};
 use std::alloc::Allocator;
+use std::mem;
 
 /// How a dialogue ends, unless it ends after the last permitted request.
 #[derive(Debug, Drop)]
@@ -90,23 +91,36 @@ impl<'s, 'p, 'k, A: Allocator + Copy, K> LentSide<'s, 'p, 'k, A, K> {
         }
     }
 
-    /// Consumes the side. Returns the number of replies before the answer to the latest message, the
-    /// number of replies, how the dialogue ends, and the packer.
-    pub(crate) fn into_parts(self) -> (u32, u32, Option<Closing>, &'p mut OnePack<'k, K>)
-        ensures earlier { result.0 ≡ self.entry.earlier }
-        ensures requests { result.1 ≡ self.entry.requests }
-        ensures closing { result.2 ≡ self.entry.closing }
-        ensures packer { result.3.now ≡ self.entry.packer.now }
-        ensures in_place { result.3.ghost_name ≡ self.entry.packer.ghost_name }
+    /// Returns the number of replies before the answer to the latest message.
+    pub(crate) fn earlier(&self) -> u32
+        ensures { result ≡ self.now.earlier }
     {
-        let LentSide {
-            earlier,
-            requests,
-            closing,
-            packer,
-            ..
-        } = self;
-        (earlier, requests, closing, packer)
+        self.earlier
+    }
+
+    /// Returns the number of replies.
+    pub(crate) fn requests(&self) -> u32
+        ensures { result ≡ self.now.requests }
+    {
+        self.requests
+    }
+
+    /// Removes how the dialogue ends, and returns it.
+    pub(crate) fn take_closing(&mut self) -> Option<Closing>
+        ensures closing { result ≡ self.old.closing }
+        ensures packer { self.new.packer.now ≡ self.old.packer.now }
+        ensures in_place { self.new.packer.ghost_name ≡ self.old.packer.ghost_name }
+    {
+        mem::replace(&mut self.closing, None)
+    }
+
+    /// Consumes the side, and returns only the packer.
+    pub(crate) fn into_packer(self) -> &'p mut OnePack<'k, K>
+        ensures value { result.now ≡ self.entry.packer.now }
+        ensures in_place { result.ghost_name ≡ self.entry.packer.ghost_name }
+    {
+        let LentSide { packer, .. } = self;
+        packer
     }
 
     // Counts a reply, and returns whether the connection accepts another request.

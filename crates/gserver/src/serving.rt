@@ -92,9 +92,10 @@ pub fn serve_one<S: Source, W: Sink, A: Allocator + Copy, K: Packer<A>>(
         Err(_) => return refuse_one(ServeFault::Reader(PacketFault::Memory), sink),
     };
     let side = LentSide::new(server, packer, ends, 1);
-    let (driven, side) = talk(side, room, source, sink);
-    let (_earlier, _requests, closing, _packer) = side.into_parts();
-    exchange_end(driven, closing)
+    let (driven, mut side) = talk(side, room, source, sink);
+    let end = exchange_end(driven, side.take_closing());
+    let _packer = side.into_packer();
+    end
 }
 
 /// Serves one connection: writes the advertisement, and then reads requests one by one and replies
@@ -136,12 +137,11 @@ pub fn serve<S: Source, W: Sink, A: Allocator + Copy, K: Packer<A>>(
     match advertise(server, sink) {
         Ok(()) => {
             let side = LentSide::new(server, packer, ends, MAX_REQUESTS);
-            let (driven, side) = talk(side, room, source, sink);
-            let (earlier, requests, closing, _packer) = side.into_parts();
-            Served {
-                requests: flushed_replies(driven, earlier, requests),
-                end: connection_end(driven, closing),
-            }
+            let (driven, mut side) = talk(side, room, source, sink);
+            let requests = flushed_replies(driven, side.earlier(), side.requests());
+            let end = connection_end(driven, side.take_closing());
+            let _packer = side.into_packer();
+            Served { requests, end }
         }
         Err(end) => Served { requests: 0, end },
     }

@@ -6,7 +6,7 @@ use Rattle.ganswer.specs.OnePack.{OnePack}
 use Rattle.ganswer.specs.declared.fault.ServeFault.TheVariants as serve
 use Rattle.gserver.specs.Conversations.{max_requests}
 use Rattle.gserver.specs.Packings.{ReportsLastPacking}
-use Rattle.gserver.proofs.OpeningLemmas.{first_packing, is_fresh, not_advertised, refused_first, unadvertised_packing}
+use Rattle.gserver.proofs.OpeningLemmas.{first_packing, is_fresh, not_advertised, refused_first}
 use Rattle.gserver.proofs.ServingLemmas.{keeps_packer, reports_last, serves_rest}
 use Rattle.gserver.proofs.TalkLemmas.{talk_in_place}
 use Rattle.gserver.proofs.serving.serve.Goals as goal
@@ -23,60 +23,54 @@ returns-in-Err-clause-packing g c =
     first_packing (serve.Reader NoBuffer) (output_of g.W.Sink.contents g.W.Sink.passed_on g.W.Sink.is_down c.args.sink.now c.refuse_first-end.new.sink)
     c.refuse_first-end.result c.args.packer.now.answered c.refuse_first-end.ensures.refused c.requires.unasked
 
-pub returns-in-Err-2-clause-serves : goal.returns-in-Err-2-clause-serves
-returns-in-Err-2-clause-serves g c =
+pub returns-in-Err-advertise-clause-serves : goal.returns-in-Err-advertise-clause-serves
+returns-in-Err-advertise-clause-serves g c =
     not_advertised c.args.server.now (MayPack (g.K.Packer.packs c.args.packer.now.packer)) (g.K.Packer.pack_fails c.args.packer.now.packer) c.args.ends
     (input_of g.S.Source.remaining g.S.Source.is_down c.args.source.now c.args.source.now)
     (output_of g.W.Sink.contents g.W.Sink.passed_on g.W.Sink.is_down c.args.sink.now c.advertise.new.sink)
-    c.in-Err-2.end (record { read = refl; down = refl }) c.in-Err-2.ensures.advertises
-
-pub returns-in-Err-2-clause-packing : goal.returns-in-Err-2-clause-packing
-returns-in-Err-2-clause-packing g c =
-    unadvertised_packing c.args.server.now.graph.format (output_of g.W.Sink.contents g.W.Sink.passed_on g.W.Sink.is_down c.args.sink.now c.advertise.new.sink)
-    c.in-Err-2.end c.args.packer.now.answered c.in-Err-2.ensures.advertises c.requires.unasked
+    c.in-Err-advertise.end (record { read = refl; down = refl }) c.in-Err-advertise.ensures.advertises
 
 pub talk-driven-requires : goal.talk-driven-requires
 talk-driven-requires g c =
     is_fresh c.new-side.result c.args.packer.now max_requests (omega arith) c.new-side.ensures.packer c.requires.unasked c.new-side.ensures.requests c.new-side.ensures.most
     c.new-side.ensures.closing
 
-pub returns-in-Ok-2-clause-serves : goal.returns-in-Ok-2-clause-serves
-returns-in-Ok-2-clause-serves g c =
+pub returns-in-Ok-advertise-clause-serves : goal.returns-in-Ok-advertise-clause-serves
+returns-in-Ok-advertise-clause-serves g c =
     let input = input_of g.S.Source.remaining g.S.Source.is_down c.args.source.now c.talk-driven.new.source in
-    let parts = c.into_parts-earlier in
     serves_rest (λ packer. MayPack (g.K.Packer.packs packer)) g.K.Packer.pack_fails c.args.server.now c.args.packer.now c.args.ends
     c.new-side.result c.talk-driven.result.1 c.new-side.ensures.server c.new-side.ensures.packer c.new-side.ensures.ends
     g.W.Sink.contents g.W.Sink.passed_on g.W.Sink.is_down c.args.sink.now c.advertise.new.sink c.talk-driven.new.sink
-    input c.talk-driven.result.0 parts.result.2 parts.result.0 parts.result.1 c.flushed_replies.result c.connection_end.result
-    c.new-side.ensures.most c.in-Ok-2.ensures.advertises c.talk-driven.ensures.ends
-    parts.ensures.closing c.connection_end.ensures parts.ensures.earlier parts.ensures.requests c.flushed_replies.ensures
+    input c.talk-driven.result.0 c.take_closing.result c.earlier.result c.requests.result c.flushed_replies-requests.result c.connection_end-end.result
+    c.new-side.ensures.most c.in-Ok-advertise.ensures.advertises c.talk-driven.ensures.ends
+    c.take_closing.ensures.closing c.connection_end-end.ensures c.earlier.ensures c.requests.ensures c.flushed_replies-requests.ensures
 
-pub returns-in-Ok-2-clause-packing : goal.returns-in-Ok-2-clause-packing
-returns-in-Ok-2-clause-packing g c =
-    let packs = λ packer. MayPack (g.K.Packer.packs packer) in
+pub returns-in-Ok-advertise-clause-packing : goal.returns-in-Ok-advertise-clause-packing
+returns-in-Ok-advertise-clause-packing g c =
+    let packs = λ (packer : g.row.K.Denot). MayPack (g.K.Packer.packs packer) in
     let input = input_of g.S.Source.remaining g.S.Source.is_down c.args.source.now c.talk-driven.new.source in
     let output = output_of g.W.Sink.contents g.W.Sink.passed_on g.W.Sink.is_down c.advertise.new.sink c.talk-driven.new.sink in
     let name =
-    sym (c.into_parts-earlier.ensures.in_place
+    sym (c.into_packer-packer.ensures.in_place ∙ (c.take_closing.ensures.in_place
     ∙ (talk_in_place packs g.K.Packer.pack_fails c.new-side.result input output c.talk-driven.result.1 c.talk-driven.result.0 c.talk-driven.ensures.ends
-    ∙ c.new-side.ensures.in_place)) in
-    subst (λ (p : OnePack g.row.K.Denot). ReportsLastPacking c.connection_end.result p.answered)
-    (sym (c.packer-1.given.1 name ∙ c.into_parts-earlier.ensures.packer))
+    ∙ c.new-side.ensures.in_place))) in
+    subst (λ (p : OnePack g.row.K.Denot). ReportsLastPacking c.connection_end-end.result p.answered)
+    (sym (c.packer-1.given.1 name ∙ (c.into_packer-packer.ensures.value ∙ c.take_closing.ensures.packer)))
     (reports_last packs g.K.Packer.pack_fails c.args.server.now c.args.packer.now c.args.ends
     c.new-side.result c.talk-driven.result.1 c.new-side.ensures.server c.new-side.ensures.packer c.new-side.ensures.ends
-    input output c.talk-driven.result.0 c.into_parts-earlier.result.2 c.connection_end.result c.talk-driven.ensures.ends
-    c.into_parts-earlier.ensures.closing c.connection_end.ensures)
+    input output c.talk-driven.result.0 c.take_closing.result c.connection_end-end.result c.talk-driven.ensures.ends
+    c.take_closing.ensures.closing c.connection_end-end.ensures)
 
-pub returns-in-Ok-2-clause-packer : goal.returns-in-Ok-2-clause-packer
-returns-in-Ok-2-clause-packer g c =
-    let packs = λ packer. MayPack (g.K.Packer.packs packer) in
+pub returns-in-Ok-advertise-clause-packer : goal.returns-in-Ok-advertise-clause-packer
+returns-in-Ok-advertise-clause-packer g c =
+    let packs = λ (packer : g.row.K.Denot). MayPack (g.K.Packer.packs packer) in
     let input = input_of g.S.Source.remaining g.S.Source.is_down c.args.source.now c.talk-driven.new.source in
     let output = output_of g.W.Sink.contents g.W.Sink.passed_on g.W.Sink.is_down c.advertise.new.sink c.talk-driven.new.sink in
     let name =
-    sym (c.into_parts-earlier.ensures.in_place
+    sym (c.into_packer-packer.ensures.in_place ∙ (c.take_closing.ensures.in_place
     ∙ (talk_in_place packs g.K.Packer.pack_fails c.new-side.result input output c.talk-driven.result.1 c.talk-driven.result.0 c.talk-driven.ensures.ends
-    ∙ c.new-side.ensures.in_place)) in
-    ap (λ (p : OnePack g.row.K.Denot). p.packer) (c.packer-1.given.1 name ∙ c.into_parts-earlier.ensures.packer)
+    ∙ c.new-side.ensures.in_place))) in
+    ap (λ (p : OnePack g.row.K.Denot). p.packer) (c.packer-1.given.1 name ∙ (c.into_packer-packer.ensures.value ∙ c.take_closing.ensures.packer))
     ∙ keeps_packer packs g.K.Packer.pack_fails c.args.server.now c.args.packer.now c.args.ends
     c.new-side.result c.talk-driven.result.1 c.new-side.ensures.server c.new-side.ensures.packer c.new-side.ensures.ends
     input output c.talk-driven.result.0 c.talk-driven.ensures.ends

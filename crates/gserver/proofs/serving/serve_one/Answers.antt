@@ -32,35 +32,35 @@ returns-clause-exchange g c =
     let output = output_of g.W.Sink.contents g.W.Sink.passed_on g.W.Sink.is_down c.args.sink.now c.talk-driven.new.sink in
     serves_one (λ packer. MayPack (g.K.Packer.packs packer)) g.K.Packer.pack_fails c.args.server.now c.args.packer.now c.args.ends
     c.new-side.result c.talk-driven.result.1 c.new-side.ensures.server c.new-side.ensures.packer c.new-side.ensures.ends
-    input output c.talk-driven.result.0 c.into_parts-earlier.result.2 c.exchange_end.result c.new-side.ensures.most c.talk-driven.ensures.ends
-    c.into_parts-earlier.ensures.closing c.exchange_end.ensures
+    input output c.talk-driven.result.0 c.take_closing.result c.exchange_end-end.result c.new-side.ensures.most c.talk-driven.ensures.ends
+    c.take_closing.ensures.closing c.exchange_end-end.ensures
 
 pub returns-clause-packing : goal.returns-clause-packing
 returns-clause-packing g c =
-    let packs = λ packer. MayPack (g.K.Packer.packs packer) in
+    let packs = λ (packer : g.row.K.Denot). MayPack (g.K.Packer.packs packer) in
     let input = input_of g.S.Source.remaining g.S.Source.is_down c.args.source.now c.talk-driven.new.source in
     let output = output_of g.W.Sink.contents g.W.Sink.passed_on g.W.Sink.is_down c.args.sink.now c.talk-driven.new.sink in
     let name =
-    sym (c.into_parts-earlier.ensures.in_place
+    sym (c.into_packer-packer.ensures.in_place ∙ (c.take_closing.ensures.in_place
     ∙ (talk_in_place packs g.K.Packer.pack_fails c.new-side.result input output c.talk-driven.result.1 c.talk-driven.result.0 c.talk-driven.ensures.ends
-    ∙ c.new-side.ensures.in_place)) in
-    subst (λ (p : OnePack g.row.K.Denot). ReportsPacking c.exchange_end.result p.answered)
-    (sym (c.packer-1.given.1 name ∙ c.into_parts-earlier.ensures.packer))
+    ∙ c.new-side.ensures.in_place))) in
+    subst (λ (p : OnePack g.row.K.Denot). ReportsPacking c.exchange_end-end.result p.answered)
+    (sym (c.packer-1.given.1 name ∙ (c.into_packer-packer.ensures.value ∙ c.take_closing.ensures.packer)))
     (reports_one packs g.K.Packer.pack_fails c.args.server.now c.args.packer.now c.args.ends
     c.new-side.result c.talk-driven.result.1 c.new-side.ensures.server c.new-side.ensures.packer c.new-side.ensures.ends
-    input output c.talk-driven.result.0 c.into_parts-earlier.result.2 c.exchange_end.result c.talk-driven.ensures.ends
-    c.into_parts-earlier.ensures.closing c.exchange_end.ensures)
+    input output c.talk-driven.result.0 c.take_closing.result c.exchange_end-end.result c.talk-driven.ensures.ends
+    c.take_closing.ensures.closing c.exchange_end-end.ensures)
 
 pub returns-clause-packer : goal.returns-clause-packer
 returns-clause-packer g c =
-    let packs = λ packer. MayPack (g.K.Packer.packs packer) in
+    let packs = λ (packer : g.row.K.Denot). MayPack (g.K.Packer.packs packer) in
     let input = input_of g.S.Source.remaining g.S.Source.is_down c.args.source.now c.talk-driven.new.source in
     let output = output_of g.W.Sink.contents g.W.Sink.passed_on g.W.Sink.is_down c.args.sink.now c.talk-driven.new.sink in
     let name =
-    sym (c.into_parts-earlier.ensures.in_place
+    sym (c.into_packer-packer.ensures.in_place ∙ (c.take_closing.ensures.in_place
     ∙ (talk_in_place packs g.K.Packer.pack_fails c.new-side.result input output c.talk-driven.result.1 c.talk-driven.result.0 c.talk-driven.ensures.ends
-    ∙ c.new-side.ensures.in_place)) in
-    ap (λ (p : OnePack g.row.K.Denot). p.packer) (c.packer-1.given.1 name ∙ c.into_parts-earlier.ensures.packer)
+    ∙ c.new-side.ensures.in_place))) in
+    ap (λ (p : OnePack g.row.K.Denot). p.packer) (c.packer-1.given.1 name ∙ (c.into_packer-packer.ensures.value ∙ c.take_closing.ensures.packer))
     ∙ keeps_packer packs g.K.Packer.pack_fails c.args.server.now c.args.packer.now c.args.ends
     c.new-side.result c.talk-driven.result.1 c.new-side.ensures.server c.new-side.ensures.packer c.new-side.ensures.ends
     input output c.talk-driven.result.0 c.talk-driven.ensures.ends
