@@ -150,15 +150,15 @@ module _ {A : Type 0} where
 
 -- ---- the steps of a side
 
-pub same_parts : {A K : Type 0} (old new : LentSide A K) → KeepsParts old new → parts_of new ≡ parts_of old
-same_parts {A = A} {K = K} old new keeps =
-    ap (λ (s : Server A). record { server = s; packer = new.packer.now.packer; ends = new.ends; most = new.most }) keeps.server
+pub same_parts : {A K : Type 0} (once : K → OnePack K) (old new : LentSide A K) → KeepsParts once old new → parts_of once new ≡ parts_of once old
+same_parts {A = A} {K = K} once old new keeps =
+    ap (λ (s : Server A). record { server = s; packer = (once new.packer.now).packer; ends = new.ends; most = new.most }) keeps.server
     ∙ ap (λ (p : K). record { server = old.server.now; packer = p; ends = new.ends; most = new.most }) keeps.packer
-    ∙ ap (λ (e : Ends). record { server = old.server.now; packer = old.packer.now.packer; ends = e; most = new.most }) keeps.ends
-    ∙ ap (λ (n : ℕ). record { server = old.server.now; packer = old.packer.now.packer; ends = old.ends; most = n }) keeps.most
+    ∙ ap (λ (e : Ends). record { server = old.server.now; packer = (once old.packer.now).packer; ends = e; most = new.most }) keeps.ends
+    ∙ ap (λ (n : ℕ). record { server = old.server.now; packer = (once old.packer.now).packer; ends = old.ends; most = n }) keeps.most
 
-pub keeps_join : {A K : Type 0} (a b c : LentSide A K) → KeepsParts a b → KeepsParts b c → KeepsParts a c
-keeps_join a b c first next = record {
+pub keeps_join : {A K : Type 0} (once : K → OnePack K) (a b c : LentSide A K) → KeepsParts once a b → KeepsParts once b c → KeepsParts once a c
+keeps_join once a b c first next = record {
   server = next.server ∙ first.server;
   packer = next.packer ∙ first.packer;
   in_place = next.in_place ∙ first.in_place;
@@ -166,8 +166,8 @@ keeps_join a b c first next = record {
   most = next.most ∙ first.most;
 }
 
-pub keeps_all : {A K : Type 0} (side : LentSide A K) → AsksPacker side side
-keeps_all side = record {
+pub keeps_all : {A K : Type 0} (once : K → OnePack K) (side : LentSide A K) → AsksPacker once side side
+keeps_all once side = record {
   earlier = refl;
   requests = refl;
   closing = refl;
@@ -201,14 +201,14 @@ module _ {A K : Type 0} (side : LentSide A K) (old new : RequestSoFar) (front : 
   hears_request (Err why) hears judged takes =
       (subst (λ (j : Judge). IsReason (j front packet) (brings front packet) why) hears.judged takes.0, tt)
 
-module _ {A K : Type 0} (packs : K → Packs A) (fails : K → PackFails A) (old : LentSide A K) (asked : Asked) (lines said : List Packet) (goes : Bool)
+module _ {A K : Type 0} (once : K → OnePack K) (packs : K → Packs A) (fails : K → PackFails A) (old : LentSide A K) (asked : Asked) (lines said : List Packet) (goes : Bool)
     (says : Says profile old.server.now.graph.format lines asked) where
-  pub replied : (mid new : LentSide A K) (answer : Reply) → AsksPacker old mid → CountsReply mid new → asked ≢ Empty
-      → (IsReady old → mid.packer.now.answered ≡ Unasked) → (IsReady old → Answers old.server.now (packs old.packer.now.packer) asked answer)
+  pub replied : (mid new : LentSide A K) (answer : Reply) → AsksPacker once old mid → CountsReply once mid new → asked ≢ Empty
+      → (IsReady once old → (once mid.packer.now).answered ≡ Unasked) → (IsReady once old → Answers old.server.now (packs (once old.packer.now).packer) asked answer)
       → said ≡ reply_packets old.ends answer → goes ≡ nat_lt new.requests new.most
-      → AnswersLent packs fails old lines said goes new
+      → AnswersLent once packs fails old lines said goes new
   replied mid new answer asks counts some unasked answers all goes_so = record {
-    keeps = keeps_join old mid new asks.keeps counts.keeps;
+    keeps = keeps_join once old mid new asks.keeps counts.keeps;
     earlier = counts.earlier ∙ asks.requests;
     answers = λ ready. record {
       asked = asked;
@@ -221,13 +221,13 @@ module _ {A K : Type 0} (packs : K → Packs A) (fails : K → PackFails A) (old
         goes_so = goes_so;
         count = counts.counts (omega (arith, asks.requests, asks.keeps.most, ready.room)) ∙ ap (λ (n : ℕ). n + 1) asks.requests;
         unclosed = counts.closing ∙ asks.closing ∙ ready.unclosed;
-        unasked = ap (λ (p : OnePack K). p.answered) counts.packer ∙ unasked ready;
+        unasked = ap (λ (p : K). (once p).answered) counts.packer ∙ unasked ready;
       });
     };
   }
 
-  pub closed : (new : LentSide A K) → asked ≡ Empty → ClosesAs closes.Closed old new → said ≡ [] → goes ≡ false
-      → AnswersLent packs fails old lines said goes new
+  pub closed : (new : LentSide A K) → asked ≡ Empty → ClosesAs once closes.Closed old new → said ≡ [] → goes ≡ false
+      → AnswersLent once packs fails old lines said goes new
   closed new empty h all ended = record {
     keeps = h.keeps;
     earlier = h.earlier;
@@ -240,17 +240,17 @@ module _ {A K : Type 0} (packs : K → Packs A) (fails : K → PackFails A) (old
         ended = ended;
         count = h.requests;
         closing = h.closing;
-        unasked = ap (λ (p : OnePack K). p.answered) h.packer ∙ ready.unasked;
+        unasked = ap (λ (p : K). (once p).answered) h.packer ∙ ready.unasked;
       }));
     };
   }
 
-  pub declined : (mid new : LentSide A K) (fault : ServeFault) → AsksPacker old mid → ClosesAs (closes.Refused fault) mid new
-      → (IsReady old → Declines old.server.now (fails old.packer.now.packer) asked fault)
-      → (IsReady old → mid.packer.now.answered ≡ packing_of_fault fault)
-      → said ≡ err_packets fault → goes ≡ false → AnswersLent packs fails old lines said goes new
+  pub declined : (mid new : LentSide A K) (fault : ServeFault) → AsksPacker once old mid → ClosesAs once (closes.Refused fault) mid new
+      → (IsReady once old → Declines old.server.now (fails (once old.packer.now).packer) asked fault)
+      → (IsReady once old → (once mid.packer.now).answered ≡ packing_of_fault fault)
+      → said ≡ err_packets fault → goes ≡ false → AnswersLent once packs fails old lines said goes new
   declined mid new fault asks h declines packing all ended = record {
-    keeps = keeps_join old mid new asks.keeps h.keeps;
+    keeps = keeps_join once old mid new asks.keeps h.keeps;
     earlier = h.earlier ∙ asks.requests;
     answers = λ ready. record {
       asked = asked;
@@ -262,7 +262,7 @@ module _ {A K : Type 0} (packs : K → Packs A) (fails : K → PackFails A) (old
         ended = ended;
         count = h.requests ∙ asks.requests;
         closing = h.closing;
-        packing = ap (λ (p : OnePack K). p.answered) h.packer ∙ packing ready;
+        packing = ap (λ (p : K). (once p).answered) h.packer ∙ packing ready;
       }));
     };
   }

@@ -91,11 +91,11 @@ unadvertised_packing format output last answered h is = absurd h
 
 -- ---- the side before the first message
 
-pub is_fresh : {A K : Type 0} (side : LentSide A K) (packer : OnePack K) (most : ℕ) → 0 < most → side.packer.now ≡ packer → packer.answered ≡ Unasked
-    → side.requests ≡ 0 → side.most ≡ most → side.closing ≡ None → IsFresh side
-is_fresh {K = K} side packer most some is unasked requests own closing = record {
+pub is_fresh : {A K : Type 0} (once : K → OnePack K) (side : LentSide A K) (packer : K) (most : ℕ) → 0 < most → side.packer.now ≡ packer → (once packer).answered ≡ Unasked
+    → side.requests ≡ 0 → side.most ≡ most → side.closing ≡ None → IsFresh once side
+is_fresh {K = K} once side packer most some is unasked requests own closing = record {
   ready = record {
-    unasked = ap (λ (p : OnePack K). p.answered) is ∙ unasked;
+    unasked = ap (λ (p : K). (once p).answered) is ∙ unasked;
     room = omega (arith, some, requests, own);
     unclosed = closing;
   };

@@ -99,12 +99,12 @@ some_reply server packs ends asked answer some h = absurd h
 not_none : {P : Type 0} (bytes : Bytes) → 0 < length bytes → bytes ≡ [] → P
 not_none bytes some none = absurd (let n = ap length none in omega (arith, some, n))
 
-module _ {A K : Type 0} (packs : K → Packs A) (fails : K → PackFails A) (first now : LentSide A K) where
+module _ {A K : Type 0} (once : K → OnePack K) (packs : K → Packs A) (fails : K → PackFails A) (first now : LentSide A K) where
   abbrev Own : Parts A K
-  Own = parts_of first
+  Own = parts_of once first
 
   abbrev Last : Input → List Packet → Bool → Type 0
-  Last rest said goes = IsLast packs fails Own rest said goes now
+  Last rest said goes = IsLast once packs fails Own rest said goes now
 
   -- the packets to write for the last message
   due_last : (rest : Input) (said : List Packet) (goes : Bool) → Last rest said goes → said ≢ [] → IsDue Own.server (packs Own.packer) (fails Own.packer) Own.ends rest said
@@ -117,38 +117,38 @@ module _ {A K : Type 0} (packs : K → Packs A) (fails : K → PackFails A) (fir
 
   -- ---- the packer's last result
 
-  pub one_packing : (rest : Input) (said : List Packet) (goes sent : Bool) → Last rest said goes → ReportsPacking (exchange_end (Ok sent) now.closing) now.packer.now.answered
+  pub one_packing : (rest : Input) (said : List Packet) (goes sent : Bool) → Last rest said goes → ReportsPacking (exchange_end (Ok sent) now.closing) (once now.packer.now).answered
   one_packing rest said goes sent (lending.IsLast.turned turn reads is on count unclosed unasked) =
-      subst (λ (c : Option Closing). ReportsPacking (exchange_end (Ok sent) c) now.packer.now.answered) (sym unclosed) (ap has_failed unasked)
+      subst (λ (c : Option Closing). ReportsPacking (exchange_end (Ok sent) c) (once now.packer.now).answered) (sym unclosed) (ap has_failed unasked)
   one_packing rest said goes sent (lending.IsLast.closed reads is count closing unasked) =
-      subst (λ (c : Option Closing). ReportsPacking (exchange_end (Ok sent) c) now.packer.now.answered) (sym closing) unasked
+      subst (λ (c : Option Closing). ReportsPacking (exchange_end (Ok sent) c) (once now.packer.now).answered) (sym closing) unasked
   one_packing rest said goes sent (lending.IsLast.ended reads is count closing unasked) =
-      subst (λ (c : Option Closing). ReportsPacking (exchange_end (Ok sent) c) now.packer.now.answered) (sym closing) unasked
+      subst (λ (c : Option Closing). ReportsPacking (exchange_end (Ok sent) c) (once now.packer.now).answered) (sym closing) unasked
   one_packing rest said goes sent (lending.IsLast.refused fault refuses is count closing packing) =
-      subst (λ (c : Option Closing). ReportsPacking (exchange_end (Ok sent) c) now.packer.now.answered) (sym closing) packing
+      subst (λ (c : Option Closing). ReportsPacking (exchange_end (Ok sent) c) (once now.packer.now).answered) (sym closing) packing
 
-  last_packing : (rest : Input) (said : List Packet) (goes sent : Bool) → Last rest said goes → ReportsLastPacking (connection_end (Ok sent) now.closing) now.packer.now.answered
+  last_packing : (rest : Input) (said : List Packet) (goes sent : Bool) → Last rest said goes → ReportsLastPacking (connection_end (Ok sent) now.closing) (once now.packer.now).answered
   last_packing rest said goes sent (lending.IsLast.turned turn reads is on count unclosed unasked) =
-      subst (λ (c : Option Closing). ReportsLastPacking (connection_end (Ok sent) c) now.packer.now.answered) (sym unclosed) unasked
+      subst (λ (c : Option Closing). ReportsLastPacking (connection_end (Ok sent) c) (once now.packer.now).answered) (sym unclosed) unasked
   last_packing rest said goes sent (lending.IsLast.closed reads is count closing unasked) =
-      subst (λ (c : Option Closing). ReportsLastPacking (connection_end (Ok sent) c) now.packer.now.answered) (sym closing) unasked
+      subst (λ (c : Option Closing). ReportsLastPacking (connection_end (Ok sent) c) (once now.packer.now).answered) (sym closing) unasked
   last_packing rest said goes sent (lending.IsLast.ended reads is count closing unasked) =
-      subst (λ (c : Option Closing). ReportsLastPacking (connection_end (Ok sent) c) now.packer.now.answered) (sym closing) unasked
+      subst (λ (c : Option Closing). ReportsLastPacking (connection_end (Ok sent) c) (once now.packer.now).answered) (sym closing) unasked
   last_packing rest said goes sent (lending.IsLast.refused fault refuses is count closing packing) =
-      subst (λ (c : Option Closing). ReportsLastPacking (connection_end (Ok sent) c) now.packer.now.answered) (sym closing) packing
+      subst (λ (c : Option Closing). ReportsLastPacking (connection_end (Ok sent) c) (once now.packer.now).answered) (sym closing) packing
 
-  pub exchange_packing : (input : Input) (output : Output) (result : Result Bool TalkFault) → EndsTalk packs fails first input output now result
-      → ReportsPacking (exchange_end result now.closing) now.packer.now.answered
+  pub exchange_packing : (input : Input) (output : Output) (result : Result Bool TalkFault) → EndsTalk once packs fails first input output now result
+      → ReportsPacking (exchange_end result now.closing) (once now.packer.now).answered
   exchange_packing input output (Ok sent) h = one_packing (rest_of input h.talked.between) h.talked.said false sent h.talked.last
   exchange_packing input output (Err fault) h = tt
 
-  pub connection_packing : (input : Input) (output : Output) (result : Result Bool TalkFault) → EndsTalk packs fails first input output now result
-      → ReportsLastPacking (connection_end result now.closing) now.packer.now.answered
+  pub connection_packing : (input : Input) (output : Output) (result : Result Bool TalkFault) → EndsTalk once packs fails first input output now result
+      → ReportsLastPacking (connection_end result now.closing) (once now.packer.now).answered
   connection_packing input output (Ok sent) h = last_packing (rest_of input h.talked.between) h.talked.said false sent h.talked.last
   connection_packing input output (Err fault) h = tt
 
-  pub same_packer : (input : Input) (output : Output) (result : Result Bool TalkFault) → EndsTalk packs fails first input output now result
-      → now.packer.now.packer ≡ first.packer.now.packer
+  pub same_packer : (input : Input) (output : Output) (result : Result Bool TalkFault) → EndsTalk once packs fails first input output now result
+      → (once now.packer.now).packer ≡ (once first.packer.now).packer
   same_packer input output (Ok sent) h = ap (λ (p : Parts A K). p.packer) h.talked.same
   same_packer input output (Err Io) h = ap (λ (p : Parts A K). p.packer) h.talked.same
   same_packer input output (Err Memory) h = absurd h
@@ -180,18 +180,18 @@ module _ {A K : Type 0} (packs : K → Packs A) (fails : K → PackFails A) (fir
       not_none (canonical_all (err_packets fault)) (some_of (err_packets fault) _ (refusal_packets fault (err_text fault) refl) (text_some (codes "ERR " ++ err_text fault) []))
       (sym (spelt ∙ ap canonical_all is) ∙ none.0)
 
-  no_turns : (input : Input) (earlier reply : Bytes) (goes : Bool) → first.most ≡ 1 → (t : HasTalked packs fails first input earlier reply goes now) → t.turns ≡ []
+  no_turns : (input : Input) (earlier reply : Bytes) (goes : Bool) → first.most ≡ 1 → (t : HasTalked once packs fails first input earlier reply goes now) → t.turns ≡ []
   no_turns input earlier reply goes one t = nil_from_length t.turns (omega (arith, one, t.count, t.room))
 
-  only_last : (input : Input) (earlier reply : Bytes) (goes : Bool) → (t : HasTalked packs fails first input earlier reply goes now) → t.turns ≡ []
+  only_last : (input : Input) (earlier reply : Bytes) (goes : Bool) → (t : HasTalked once packs fails first input earlier reply goes now) → t.turns ≡ []
       → Last input t.said goes
   only_last input earlier reply goes t none = subst (λ (i : Input). Last i t.said goes) (ap (rest_of input) (t.alone none)) t.last
 
-  nothing_before : (input : Input) (earlier reply : Bytes) (goes : Bool) → (t : HasTalked packs fails first input earlier reply goes now) → t.turns ≡ []
+  nothing_before : (input : Input) (earlier reply : Bytes) (goes : Bool) → (t : HasTalked once packs fails first input earlier reply goes now) → t.turns ≡ []
       → earlier ≡ []
   nothing_before input earlier reply goes t none = t.before ∙ ap (λ (turns : List Turn). canonical_all (replies_of Own turns)) none
 
-  failed_once : (input : Input) (output : Output) → first.most ≡ 1 → (h : HasFailed packs fails first input output now)
+  failed_once : (input : Input) (output : Output) → first.most ≡ 1 → (h : HasFailed once packs fails first input output now)
       → (due : List Packet) × IsDue Own.server (packs Own.packer) (fails Own.packer) Own.ends input due × SendsSome output (canonical_all due) × KeepsPassed output.passed_on
   failed_once input output one h =
       let t = h.talked in
@@ -212,7 +212,7 @@ module _ {A K : Type 0} (packs : K → Packs A) (fails : K → PackFails A) (fir
         ],
       )
 
-  pub exchange_served : (input : Input) (output : Output) (result : Result Bool TalkFault) → first.most ≡ 1 → EndsTalk packs fails first input output now result
+  pub exchange_served : (input : Input) (output : Output) (result : Result Bool TalkFault) → first.most ≡ 1 → EndsTalk once packs fails first input output now result
       → Exchanges Own.server (packs Own.packer) (fails Own.packer) Own.ends input output (exchange_end result now.closing)
   exchange_served input output (Ok sent) one h =
       let t = h.talked in
@@ -237,10 +237,10 @@ talk_more parts format turns turn =
     append_assoc (advert_packets format) (replies_of parts turns) (reply_packets parts.ends turn.answer)
     ∙ ap (λ (l : List Packet). advert_packets format ++ l) (sym (replies_more parts turns turn))
 
-module _ {A K W : Type 0} (packs : K → Packs A) (fails : K → PackFails A) (first now : LentSide A K) (most : first.most ≡ max_requests) (input : Input)
+module _ {A K W : Type 0} (once : K → OnePack K) (packs : K → Packs A) (fails : K → PackFails A) (first now : LentSide A K) (most : first.most ≡ max_requests) (input : Input)
     (contents passed_on : W → Option Bytes) (is_down : W → Bool) (a b c : W) where
   abbrev Advert : Bytes
-  Advert = canonical_all (advert_packets (parts_of first).server.graph.format)
+  Advert = canonical_all (advert_packets (parts_of once first).server.graph.format)
 
   abbrev Opening : Output
   Opening = output_of contents passed_on is_down a b
@@ -253,7 +253,7 @@ module _ {A K W : Type 0} (packs : K → Packs A) (fails : K → PackFails A) (f
 
   abbrev Served : Bool → Option Closing → Type 0
   Served sent how =
-      Serves (parts_of first).server (packs (parts_of first).packer) (fails (parts_of first).packer) (parts_of first).ends input Whole now.requests (connection_end (Ok sent) how)
+      Serves (parts_of once first).server (packs (parts_of once first).packer) (fails (parts_of once first).packer) (parts_of once first).ends input Whole now.requests (connection_end (Ok sent) how)
 
   -- the advertisement, followed by all answers
   passes_whole : Passes Opening Advert → (bytes : Bytes) → ((0 < length bytes) × Passes Rest bytes) ⊎ ((bytes ≡ []) × IsUnwritten Rest) → Passes Whole (Advert ++ bytes)
@@ -261,33 +261,33 @@ module _ {A K W : Type 0} (packs : K → Packs A) (fails : K → PackFails A) (f
   passes_whole opening bytes (inr none) =
       subst (Passes Whole) (sym (ap (λ (l : Bytes). Advert ++ l) none.0 ∙ append-nil Advert)) (passes_still contents passed_on is_down a b c Advert opening none.1)
 
-  module _ (earlier reply : Bytes) (goes : Bool) (t : HasTalked packs fails first input earlier reply goes now) where
-    advert_and_replies : Advert ++ earlier ≡ talk_bytes (parts_of first).server.graph.format (parts_of first).ends t.turns
-    advert_and_replies = ap (λ (l : Bytes). Advert ++ l) t.before ∙ talk_is (parts_of first) (parts_of first).server.graph.format t.turns
+  module _ (earlier reply : Bytes) (goes : Bool) (t : HasTalked once packs fails first input earlier reply goes now) where
+    advert_and_replies : Advert ++ earlier ≡ talk_bytes (parts_of once first).server.graph.format (parts_of once first).ends t.turns
+    advert_and_replies = ap (λ (l : Bytes). Advert ++ l) t.before ∙ talk_is (parts_of once first) (parts_of once first).server.graph.format t.turns
 
     -- all bytes, if the last answer has these packets
     written_last : Passes Whole (Advert ++ (earlier ++ reply)) → (said : List Packet) → t.said ≡ said
-        → Passes Whole (talk_bytes (parts_of first).server.graph.format (parts_of first).ends t.turns ++ canonical_all said)
+        → Passes Whole (talk_bytes (parts_of once first).server.graph.format (parts_of once first).ends t.turns ++ canonical_all said)
     written_last passes said is =
         subst (Passes Whole)
         (sym (append_assoc Advert earlier reply) ∙ ap (λ (l : Bytes). l ++ reply) advert_and_replies
-        ∙ ap (λ (l : Bytes). talk_bytes (parts_of first).server.graph.format (parts_of first).ends t.turns ++ l) (t.latest ∙ ap canonical_all is))
+        ∙ ap (λ (l : Bytes). talk_bytes (parts_of once first).server.graph.format (parts_of once first).ends t.turns ++ l) (t.latest ∙ ap canonical_all is))
         passes
 
     written_none : Passes Whole (Advert ++ (earlier ++ reply)) → t.said ≡ []
-        → Passes Whole (talk_bytes (parts_of first).server.graph.format (parts_of first).ends t.turns)
-    written_none passes is = subst (Passes Whole) (append-nil (talk_bytes (parts_of first).server.graph.format (parts_of first).ends t.turns)) (written_last passes [] is)
+        → Passes Whole (talk_bytes (parts_of once first).server.graph.format (parts_of once first).ends t.turns)
+    written_none passes is = subst (Passes Whole) (append-nil (talk_bytes (parts_of once first).server.graph.format (parts_of once first).ends t.turns)) (written_last passes [] is)
 
     conversed : (requests : ℕ) (Last : Input → Type 0) → requests ≡ now.earlier → Last (rest_of input t.between)
-        → Converses (parts_of first).server (packs (parts_of first).packer) input requests t.turns Last
+        → Converses (parts_of once first).server (packs (parts_of once first).packer) input requests t.turns Last
     conversed requests Last is last = record { between = t.between; read = t.read; count = is ∙ t.count; last = last }
 
     few : (requests : ℕ) → requests ≡ now.earlier → requests < max_requests
     few requests is = omega (arith, is, t.room, most)
 
   -- one more turn, after which the connection accepts no further request
-  all_turns : (earlier reply : Bytes) (t : HasTalked packs fails first input earlier reply false now) → (turn : Turn)
-      → ReadsTurn (parts_of first).server (packs (parts_of first).packer) (rest_of input t.between) turn → t.said ≡ reply_packets (parts_of first).ends turn.answer
+  all_turns : (earlier reply : Bytes) (t : HasTalked once packs fails first input earlier reply false now) → (turn : Turn)
+      → ReadsTurn (parts_of once first).server (packs (parts_of once first).packer) (rest_of input t.between) turn → t.said ≡ reply_packets (parts_of once first).ends turn.answer
       → false ≡ nat_lt now.requests now.most → now.requests ≡ now.earlier + 1 → Passes Whole (Advert ++ (earlier ++ reply))
       → Served true None
   all_turns earlier reply t turn reads is off count passes =
@@ -300,25 +300,25 @@ module _ {A K W : Type 0} (packs : K → Packs A) (fails : K → PackFails A) (f
         turns,
         record {
           between = input.read.new;
-          read = record { lines = lines; each = All-push (IsTurn (parts_of first).server (packs (parts_of first).packer)) t.turns turn t.read.each reads.is_turn };
+          read = record { lines = lines; each = All-push (IsTurn (parts_of once first).server (packs (parts_of once first).packer)) t.turns turn t.read.each reads.is_turn };
           count = count ∙ ap (λ (n : ℕ). n + 1) t.count ∙ sym (length-append t.turns (turn ∷ []));
           last = inr (all, refl, reads.up);
         },
         subst (Passes Whole)
-            (sym (canonical_joins (talk (parts_of first).server.graph.format (parts_of first).ends t.turns) (reply_packets (parts_of first).ends turn.answer))
-            ∙ ap canonical_all (talk_more (parts_of first) (parts_of first).server.graph.format t.turns turn))
-            (written_last earlier reply false t passes (reply_packets (parts_of first).ends turn.answer) is),
+            (sym (canonical_joins (talk (parts_of once first).server.graph.format (parts_of once first).ends t.turns) (reply_packets (parts_of once first).ends turn.answer))
+            ∙ ap canonical_all (talk_more (parts_of once first) (parts_of once first).server.graph.format t.turns turn))
+            (written_last earlier reply false t passes (reply_packets (parts_of once first).ends turn.answer) is),
       )
 
-  served_last : (sent : Bool) (earlier reply : Bytes) (t : HasTalked packs fails first input earlier reply false now) → Passes Whole (Advert ++ (earlier ++ reply))
-      → (last : IsLast packs fails (parts_of first) (rest_of input t.between) t.said false now) → Served sent now.closing
+  served_last : (sent : Bool) (earlier reply : Bytes) (t : HasTalked once packs fails first input earlier reply false now) → Passes Whole (Advert ++ (earlier ++ reply))
+      → (last : IsLast once packs fails (parts_of once first) (rest_of input t.between) t.said false now) → Served sent now.closing
   served_last sent earlier reply t passes (lending.IsLast.turned turn reads is on count unclosed unasked) =
       subst (Served sent) (sym unclosed) (all_turns earlier reply t turn reads is on count passes)
   served_last sent earlier reply t passes (lending.IsLast.closed reads is count closing unasked) =
       subst (Served sent) (sym closing) (
         t.turns,
         few earlier reply false t now.requests count,
-        conversed earlier reply false t now.requests (ReadsEmpty (parts_of first).server.graph.format) count reads,
+        conversed earlier reply false t now.requests (ReadsEmpty (parts_of once first).server.graph.format) count reads,
         written_none earlier reply false t passes is,
       )
   served_last sent earlier reply t passes (lending.IsLast.ended reads is count closing unasked) =
@@ -331,7 +331,7 @@ module _ {A K W : Type 0} (packs : K → Packs A) (fails : K → PackFails A) (f
       subst (Served sent) (sym closing) (inl (
         t.turns,
         few earlier reply false t now.requests count,
-        conversed earlier reply false t now.requests (λ rest. IsRefused (parts_of first).server (fails (parts_of first).packer) rest fault) count refuses,
+        conversed earlier reply false t now.requests (λ rest. IsRefused (parts_of once first).server (fails (parts_of once first).packer) rest fault) count refuses,
         written_last earlier reply false t passes (err_packets fault) is,
       ))
 
@@ -365,22 +365,22 @@ module _ {A K W : Type 0} (packs : K → Packs A) (fails : K → PackFails A) (f
     down = down;
   }
 
-  failed_served : Passes Opening Advert → (h : HasFailed packs fails first input Rest now)
-      → Serves (parts_of first).server (packs (parts_of first).packer) (fails (parts_of first).packer) (parts_of first).ends input Whole now.earlier end.WriteFailed
+  failed_served : Passes Opening Advert → (h : HasFailed once packs fails first input Rest now)
+      → Serves (parts_of once first).server (packs (parts_of once first).packer) (fails (parts_of once first).packer) (parts_of once first).ends input Whole now.earlier end.WriteFailed
   failed_served opening h =
       let t = h.talked in inl (
         t.turns,
         t.said,
         few h.earlier h.reply h.goes t now.earlier refl,
         conversed h.earlier h.reply h.goes t now.earlier
-            (λ rest. IsDue (parts_of first).server (packs (parts_of first).packer) (fails (parts_of first).packer) (parts_of first).ends rest t.said) refl
-            (due_last packs fails first now (rest_of input t.between) t.said h.goes t.last h.some),
+            (λ rest. IsDue (parts_of once first).server (packs (parts_of once first).packer) (fails (parts_of once first).packer) (parts_of once first).ends rest t.said) refl
+            (due_last once packs fails first now (rest_of input t.between) t.said h.goes t.last h.some),
         subst (λ (l : Bytes). SendsAndFails Whole l (canonical_all t.said)) (advert_and_replies h.earlier h.reply h.goes t)
             (failed_later h.earlier (canonical_all t.said) h.front h.back opening (sym t.latest ∙ h.due) h.wrote h.down h.passed),
       )
 
-  pub connection_served : (result : Result Bool TalkFault) → Passes Opening Advert → EndsTalk packs fails first input Rest now result
-      → Serves (parts_of first).server (packs (parts_of first).packer) (fails (parts_of first).packer) (parts_of first).ends input Whole
+  pub connection_served : (result : Result Bool TalkFault) → Passes Opening Advert → EndsTalk once packs fails first input Rest now result
+      → Serves (parts_of once first).server (packs (parts_of once first).packer) (fails (parts_of once first).packer) (parts_of once first).ends input Whole
       (flushed_replies result now.earlier now.requests) (connection_end result now.closing)
   connection_served (Ok sent) opening h =
       served_last sent h.earlier h.reply h.talked (passes_whole opening (h.earlier ++ h.reply) h.sent) h.talked.last
@@ -389,56 +389,56 @@ module _ {A K W : Type 0} (packs : K → Packs A) (fails : K → PackFails A) (f
 
 -- ---- the side of a call
 
-module _ {A K : Type 0} (packs : K → Packs A) (fails : K → PackFails A) (server : Server A) (packer : OnePack K) (ends : Ends) (first now : LentSide A K)
+module _ {A K : Type 0} (once : K → OnePack K) (packs : K → Packs A) (fails : K → PackFails A) (server : Server A) (packer : K) (ends : Ends) (first now : LentSide A K)
     (is_server : first.server.now ≡ server) (is_packer : first.packer.now ≡ packer) (is_ends : first.ends ≡ ends) where
-  own_parts : parts_of first ≡ record { server = server; packer = packer.packer; ends = ends; most = first.most }
+  own_parts : parts_of once first ≡ record { server = server; packer = (once packer).packer; ends = ends; most = first.most }
   own_parts =
-      ap (λ (s : Server A). record { server = s; packer = first.packer.now.packer; ends = first.ends; most = first.most }) is_server
-      ∙ ap (λ (p : OnePack K). record { server = server; packer = p.packer; ends = first.ends; most = first.most }) is_packer
-      ∙ ap (λ (e : Ends). record { server = server; packer = packer.packer; ends = e; most = first.most }) is_ends
+      ap (λ (s : Server A). record { server = s; packer = (once first.packer.now).packer; ends = first.ends; most = first.most }) is_server
+      ∙ ap (λ (p : K). record { server = server; packer = (once p).packer; ends = first.ends; most = first.most }) is_packer
+      ∙ ap (λ (e : Ends). record { server = server; packer = (once packer).packer; ends = e; most = first.most }) is_ends
 
   pub serves_one : (input : Input) (output : Output) (result : Result Bool TalkFault) (closing : Option Closing) (how : ExchangeEnd) → first.most ≡ 1
-      → EndsTalk packs fails first input output now result → closing ≡ now.closing → how ≡ exchange_end result closing
-      → ServesOne server (packs packer.packer) (fails packer.packer) ends input output how
+      → EndsTalk once packs fails first input output now result → closing ≡ now.closing → how ≡ exchange_end result closing
+      → ServesOne server (packs (once packer).packer) (fails (once packer).packer) ends input output how
   serves_one input output result closing how one h is_closing is_end =
-      inl (subst (λ (e : ExchangeEnd). Exchanges server (packs packer.packer) (fails packer.packer) ends input output e)
+      inl (subst (λ (e : ExchangeEnd). Exchanges server (packs (once packer).packer) (fails (once packer).packer) ends input output e)
       (sym (is_end ∙ ap (exchange_end result) is_closing))
       (subst (λ (p : Parts A K). Exchanges p.server (packs p.packer) (fails p.packer) p.ends input output (exchange_end result now.closing)) own_parts
-      (exchange_served packs fails first now input output result one h)))
+      (exchange_served once packs fails first now input output result one h)))
 
   pub reports_one : (input : Input) (output : Output) (result : Result Bool TalkFault) (closing : Option Closing) (how : ExchangeEnd)
-      → EndsTalk packs fails first input output now result → closing ≡ now.closing → how ≡ exchange_end result closing
-      → ReportsPacking how now.packer.now.answered
+      → EndsTalk once packs fails first input output now result → closing ≡ now.closing → how ≡ exchange_end result closing
+      → ReportsPacking how (once now.packer.now).answered
   reports_one input output result closing how h is_closing is_end =
-      subst (λ (e : ExchangeEnd). ReportsPacking e now.packer.now.answered) (sym (is_end ∙ ap (exchange_end result) is_closing))
-      (exchange_packing packs fails first now input output result h)
+      subst (λ (e : ExchangeEnd). ReportsPacking e (once now.packer.now).answered) (sym (is_end ∙ ap (exchange_end result) is_closing))
+      (exchange_packing once packs fails first now input output result h)
 
-  pub keeps_packer : (input : Input) (output : Output) (result : Result Bool TalkFault) → EndsTalk packs fails first input output now result
-      → now.packer.now.packer ≡ packer.packer
-  keeps_packer input output result h = same_packer packs fails first now input output result h ∙ ap (λ (p : OnePack K). p.packer) is_packer
+  pub keeps_packer : (input : Input) (output : Output) (result : Result Bool TalkFault) → EndsTalk once packs fails first input output now result
+      → (once now.packer.now).packer ≡ (once packer).packer
+  keeps_packer input output result h = same_packer once packs fails first now input output result h ∙ ap (λ (p : K). (once p).packer) is_packer
 
   pub reports_last : (input : Input) (output : Output) (result : Result Bool TalkFault) (closing : Option Closing) (how : End)
-      → EndsTalk packs fails first input output now result → closing ≡ now.closing → how ≡ connection_end result closing
-      → ReportsLastPacking how now.packer.now.answered
+      → EndsTalk once packs fails first input output now result → closing ≡ now.closing → how ≡ connection_end result closing
+      → ReportsLastPacking how (once now.packer.now).answered
   reports_last input output result closing how h is_closing is_end =
-      subst (λ (e : End). ReportsLastPacking e now.packer.now.answered) (sym (is_end ∙ ap (connection_end result) is_closing))
-      (connection_packing packs fails first now input output result h)
+      subst (λ (e : End). ReportsLastPacking e (once now.packer.now).answered) (sym (is_end ∙ ap (connection_end result) is_closing))
+      (connection_packing once packs fails first now input output result h)
 
   module _ {W : Type 0} (contents passed_on : W → Option Bytes) (is_down : W → Bool) (a b c : W) where
     pub serves_rest : (input : Input) (result : Result Bool TalkFault) (closing : Option Closing) (earlier replies requests : ℕ) (how : End) → first.most ≡ max_requests
         → Passes (output_of contents passed_on is_down a b) (canonical_all (advert_packets server.graph.format))
-        → EndsTalk packs fails first input (output_of contents passed_on is_down b c) now result
+        → EndsTalk once packs fails first input (output_of contents passed_on is_down b c) now result
         → closing ≡ now.closing → how ≡ connection_end result closing
         → earlier ≡ now.earlier → replies ≡ now.requests → requests ≡ flushed_replies result earlier replies
-        → Serves server (packs packer.packer) (fails packer.packer) ends input (output_of contents passed_on is_down a c) requests how
+        → Serves server (packs (once packer).packer) (fails (once packer).packer) ends input (output_of contents passed_on is_down a c) requests how
     serves_rest input result closing earlier replies requests how most opening h is_closing is_end is_earlier is_replies is_requests =
         let output = output_of contents passed_on is_down a c in
         let count : requests ≡ flushed_replies result now.earlier now.requests =
         is_requests ∙ ap (λ (n : ℕ). flushed_replies result n replies) is_earlier ∙ ap (flushed_replies result now.earlier) is_replies in
-        subst (λ (n : ℕ). Serves server (packs packer.packer) (fails packer.packer) ends input output n how) (sym count)
-        (subst (λ (e : End). Serves server (packs packer.packer) (fails packer.packer) ends input output (flushed_replies result now.earlier now.requests) e)
+        subst (λ (n : ℕ). Serves server (packs (once packer).packer) (fails (once packer).packer) ends input output n how) (sym count)
+        (subst (λ (e : End). Serves server (packs (once packer).packer) (fails (once packer).packer) ends input output (flushed_replies result now.earlier now.requests) e)
         (sym (is_end ∙ ap (connection_end result) is_closing))
         (subst (λ (p : Parts A K). Serves p.server (packs p.packer) (fails p.packer) p.ends input output (flushed_replies result now.earlier now.requests) (connection_end result now.closing))
         own_parts
-        (connection_served packs fails first now most input contents passed_on is_down a b c result
+        (connection_served once packs fails first now most input contents passed_on is_down a b c result
         (subst (λ (s : Server A). Passes (output_of contents passed_on is_down a b) (canonical_all (advert_packets s.graph.format))) (sym is_server) opening) h)))

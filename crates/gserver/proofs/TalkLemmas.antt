@@ -137,34 +137,34 @@ refused_to_answer : {A : Type 0} (server : Server A) (fails : PackFails A) (inpu
 refused_to_answer server fails input (serve.Request cause) h = absurd (never_reading server fails h.asked cause h.declines)
 refused_to_answer server fails input cause h = h
 
-module _ {A K : Type 0} (packs : K → Packs A) (fails : K → PackFails A) (first : LentSide A K) where
+module _ {A K : Type 0} (once : K → OnePack K) (packs : K → Packs A) (fails : K → PackFails A) (first : LentSide A K) where
   abbrev Own : Parts A K
-  Own = parts_of first
+  Own = parts_of once first
 
   abbrev SideAnswered : List Packet → List Packet → LentSide A K → Type 0
-  SideAnswered = Answered judge_lent (λ side. brings) OpensLent (AnswersLent packs fails) RefusesLent first
+  SideAnswered = Answered judge_lent (λ side. brings) (OpensLent once) (AnswersLent once packs fails) (RefusesLent once) first
 
   abbrev SideReplied : List Packet → Option Stop → List Packet → List Packet → Bool → LentSide A K → Type 0
-  SideReplied = HasReplied judge_lent (λ side. brings) OpensLent (AnswersLent packs fails) RefusesLent first
+  SideReplied = HasReplied judge_lent (λ side. brings) (OpensLent once) (AnswersLent once packs fails) (RefusesLent once) first
 
   -- each message so far was a request, and was answered with a reply
   pub record HasTurns (heard said : List Packet) (now : LentSide A K) : Type 0 where
     pub turns : List Turn
-    pub same : parts_of now ≡ Own
+    pub same : parts_of once now ≡ Own
     pub in_place : now.packer.ghost_name ≡ first.packer.ghost_name
     pub each : All (IsTurn Own.server (packs Own.packer)) turns
     pub all_heard : heard ≡ requests_of turns
     pub all_said : said ≡ replies_of Own turns
     pub count : now.requests ≡ length turns
-    pub ready : IsReady now
+    pub ready : IsReady once now
 
-  turns_by : (heard said lines reply : List Packet) (mid now : LentSide A K) → HasTurns heard said mid → KeepsParts mid now
-      → (asked : Asked) → Says profile Own.server.graph.format lines asked → AnswersAs packs fails Own mid asked reply true now
+  turns_by : (heard said lines reply : List Packet) (mid now : LentSide A K) → HasTurns heard said mid → KeepsParts once mid now
+      → (asked : Asked) → Says profile Own.server.graph.format lines asked → AnswersAs once packs fails Own mid asked reply true now
       → HasTurns (heard ++ lines) (said ++ reply) now
   turns_by heard said lines reply mid now t keeps asked says (inl r) =
       let turn : Turn = record { request = lines; asked = asked; answer = r.answer } in record {
         turns = t.turns ++ turn ∷ [];
-        same = same_parts mid now keeps ∙ t.same;
+        same = same_parts once mid now keeps ∙ t.same;
         in_place = keeps.in_place ∙ t.in_place;
         each = All-push (IsTurn Own.server (packs Own.packer)) t.turns turn t.each (record { says = says; asks = r.asks; answers = r.answers });
         all_heard = ap (λ (l : List Packet). l ++ lines) t.all_heard ∙ sym (requests_more t.turns turn);
@@ -175,10 +175,10 @@ module _ {A K : Type 0} (packs : K → Packs A) (fails : K → PackFails A) (fir
   turns_by heard said lines reply mid now t keeps asked says (inr (inl c)) = absurd (cc c.ended)
   turns_by heard said lines reply mid now t keeps asked says (inr (inr d)) = absurd (cc d.ended)
 
-  own_lines : (heard said lines reply : List Packet) (goes : Bool) (mid now : LentSide A K) → HasTurns heard said mid → AnswersLent packs fails mid lines reply goes now
-      → AnswersLines packs fails Own mid lines reply goes now
+  own_lines : (heard said lines reply : List Packet) (goes : Bool) (mid now : LentSide A K) → HasTurns heard said mid → AnswersLent once packs fails mid lines reply goes now
+      → AnswersLines once packs fails Own mid lines reply goes now
   own_lines heard said lines reply goes mid now t a =
-      subst (λ (p : Parts A K). AnswersLines packs fails p mid lines reply goes now) t.same (a.answers t.ready)
+      subst (λ (p : Parts A K). AnswersLines once packs fails p mid lines reply goes now) t.same (a.answers t.ready)
 
   has_turns : (heard said : List Packet) (now : LentSide A K) → SideAnswered heard said now → HasTurns heard said now
   has_turns heard said now (dialogue.Answered.opened packets h) = record {
@@ -200,7 +200,7 @@ module _ {A K : Type 0} (packs : K → Packs A) (fails : K → PackFails A) (fir
 
   answered_last : (rest : Input) (lines reply : List Packet) (goes : Bool) (mid now : LentSide A K) → now.earlier ≡ mid.requests
       → ReadsPackets rest.read lines → rest.is_down ≡ false → (asked : Asked) → Says profile Own.server.graph.format lines asked
-      → AnswersAs packs fails Own mid asked reply goes now → IsLast packs fails Own rest reply goes now
+      → AnswersAs once packs fails Own mid asked reply goes now → IsLast once packs fails Own rest reply goes now
   answered_last rest lines reply goes mid now earlier read up asked says (inl r) =
       lending.IsLast.turned (record { request = lines; asked = asked; answer = r.answer })
       (record { lines = read; is_turn = record { says = says; asks = r.asks; answers = r.answers }; up = up })
@@ -216,12 +216,12 @@ module _ {A K : Type 0} (packs : K → Packs A) (fails : K → PackFails A) (fir
       d.all (d.count ∙ sym earlier) d.closing d.packing
 
   refused_last : ((j : Judge) → LawsOf j) → HasEndings (judge profile Own.server.graph.format) → (rest : Input) (more partial : Bytes) (lines reply : List Packet) (stopped : Option Stop)
-      (fault : MessageFault) (mid now : LentSide A K) → IsReady mid → RefusesLent mid fault reply now
+      (fault : MessageFault) (mid now : LentSide A K) → IsReady once mid → RefusesLent once mid fault reply now
       → Consumes rest.read.old rest.read.new more → Spelt lines partial more → Leaves stopped partial rest.read.new rest.is_down
-      → IsRejected (judge profile Own.server.graph.format) brings lines stopped fault → IsLast packs fails Own rest reply false now
+      → IsRejected (judge profile Own.server.graph.format) brings lines stopped fault → IsLast once packs fails Own rest reply false now
   refused_last laws endings rest more partial lines reply stopped fault mid now ready h consumed spelt leaves is =
-      let answered = ap (λ (p : OnePack K). p.answered) h.packer ∙ ready.unasked in
-      elim h.how as (λ _. IsLast packs fails Own rest reply false now) [
+      let answered = ap (λ (p : K). (once p).answered) h.packer ∙ ready.unasked in
+      elim h.how as (λ _. IsLast once packs fails Own rest reply false now) [
         | inl e ↦
             let reads = ends_input (judge profile Own.server.graph.format) brings rest.read more partial lines stopped fault rest.is_down consumed spelt leaves is e.first e.ended in
             lending.IsLast.ended (record { ended = reads.0; up = reads.1 }) e.all (h.count ∙ sym h.earlier) e.closing answered
@@ -237,7 +237,7 @@ module _ {A K : Type 0} (packs : K → Packs A) (fails : K → PackFails A) (fir
   has_talked : ((j : Judge) → LawsOf j) → HasEndings (judge profile Own.server.graph.format) → (input : Input) (heard : List Packet) (stopped : Option Stop) (earlier reply : List Packet)
       (goes : Bool) (now : LentSide A K) → SideReplied heard stopped earlier reply goes now → Receives heard stopped input.read input.is_down
       → (reply ≢ []) ⊎ (goes ≡ false)
-      → (t : HasTalked packs fails first input (canonical_all earlier) (canonical_all reply) goes now) × (t.said ≡ reply)
+      → (t : HasTalked once packs fails first input (canonical_all earlier) (canonical_all reply) goes now) × (t.said ≡ reply)
   has_talked laws endings input heard stopped earlier reply goes now (dialogue.HasReplied.opened said on h) r (inl some) = absurd (some h.1.0)
   has_talked laws endings input heard stopped earlier reply goes now (dialogue.HasReplied.opened said on h) r (inr off) = absurd (cc (h.1.1, off))
   has_talked laws endings input heard stopped earlier reply goes now (dialogue.HasReplied.answered so_far so_said lines said on mid last before whole a) r some =
@@ -258,7 +258,7 @@ module _ {A K : Type 0} (packs : K → Packs A) (fails : K → PackFails A) (fir
           last = answered_last rest lines said on mid last a.earlier read r.leaves.source l.asked l.says l.answers;
           before = ap canonical_all t.all_said;
           latest = refl;
-          same = same_parts mid last a.keeps ∙ t.same;
+          same = same_parts once mid last a.keeps ∙ t.same;
           in_place = a.keeps.in_place ∙ t.in_place;
         },
         refl,
@@ -280,7 +280,7 @@ module _ {A K : Type 0} (packs : K → Packs A) (fails : K → PackFails A) (fir
           last = refused_last laws endings rest s.rest r.partial lines said why fault mid last t.ready h s.consumed s.spelt r.leaves rejected;
           before = ap canonical_all t.all_said;
           latest = refl;
-          same = same_parts mid last h.keeps ∙ t.same;
+          same = same_parts once mid last h.keeps ∙ t.same;
           in_place = h.keeps.in_place ∙ t.in_place;
         },
         refl,
@@ -289,10 +289,10 @@ module _ {A K : Type 0} (packs : K → Packs A) (fails : K → PackFails A) (fir
   -- ---- the result of the dialogue
 
   abbrev Ran : Bool → LentSide A K → Change → Change → Change → Bool → Bool → Type 0 → Type 0
-  Ran sent now = HasRun judge_lent (λ side. brings) OpensLent (AnswersLent packs fails) RefusesLent sent first now
+  Ran sent now = HasRun judge_lent (λ side. brings) (OpensLent once) (AnswersLent once packs fails) (RefusesLent once) sent first now
 
   abbrev Broke : TalkFault → LentSide A K → Change → Change → Change → Bool → Type 0
-  Broke fault now = BreaksBy judge_lent (λ side. brings) OpensLent (AnswersLent packs fails) RefusesLent fault first now
+  Broke fault now = BreaksBy judge_lent (λ side. brings) (OpensLent once) (AnswersLent once packs fails) (RefusesLent once) fault first now
 
   sent_all : (output : Output) (Untouched : Type 0) → (Untouched → IsUnwritten output) → (sent : Bool) (bytes : Bytes)
       → HasSent sent bytes output.written output.passed_on output.is_down Untouched → Appends output.written.old output.written.new bytes
@@ -304,7 +304,7 @@ module _ {A K : Type 0} (packs : K → Packs A) (fails : K → PackFails A) (fir
       (Untouched : Type 0) → (Untouched → IsUnwritten output)
       → IfOk result (λ sent. Ran sent now input.read output.written output.passed_on input.is_down output.is_down Untouched)
       → IfErr result (λ fault. Broke fault now input.read output.written output.passed_on input.is_down)
-      → IsDownBy result output.was_down output.is_down → EndsTalk packs fails first input output now result
+      → IsDownBy result output.was_down output.is_down → EndsTalk once packs fails first input output now result
   talk_ends laws endings input output (Ok sent) now Untouched still run broken down =
       let t = has_talked laws endings input run.heard run.stopped run.earlier run.reply false now run.replied run.receives (inr refl) in record {
         earlier = canonical_all run.earlier;
@@ -328,7 +328,7 @@ module _ {A K : Type 0} (packs : K → Packs A) (fails : K → PackFails A) (fir
       }
   talk_ends laws endings input output (Err Memory) now Untouched still run broken down = absurd broken
 
-  pub talk_in_place : (input : Input) (output : Output) (now : LentSide A K) (result : Result Bool TalkFault) → EndsTalk packs fails first input output now result
+  pub talk_in_place : (input : Input) (output : Output) (now : LentSide A K) (result : Result Bool TalkFault) → EndsTalk once packs fails first input output now result
       → now.packer.ghost_name ≡ first.packer.ghost_name
   talk_in_place input output now (Ok sent) h = h.talked.in_place
   talk_in_place input output now (Err Io) h = h.talked.in_place

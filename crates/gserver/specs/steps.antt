@@ -4,3 +4,4 @@ pub mod Stepping
 pub mod RefLines
 pub mod Connections
 pub mod Lending
+pub mod Recording

@@ -3,7 +3,6 @@
 ghost use Rattle.std.specs.Prelude.{◌≡◌, ◌<◌, ◌+◌, ◌-◌, ◌↔◌, [], Bool, IsTrue, List, MatchResult, None, nat_lt, ℕ};
 ghost use Rattle.gpkt.specs.Packets.{Packet};
 ghost use Rattle.ggrammar.specs.declared.fault.Why.TheVariants as why;
-ghost use Rattle.gobject.specs.Packs.{MayPack};
 ghost use Rattle.glsreply.specs.LsReplies.{LsReply, canonical_reply as ls_packets};
 ghost use Rattle.gfetchreply.specs.FetchReplies.{canonical_reply as fetch_packets};
 ghost use Rattle.gfetchreply.specs.Views.{reply_in};
@@ -21,17 +20,17 @@ ghost use Rattle.gserver.specs.steps.Lending.{AsksPacker, ClosesAs, CountsReply,
 
 use crate::lent::Lent;
 use crate::listing::Listing;
+use crate::recorded::Recorded;
 use crate::refusal::words_of;
 use crate::reply::ServerReply;
 use crate::said::Rest;
 use crate::side::answer_of;
 use crate::speech::Speech;
-use ganswer::{OnePack, Packing, ServeFault, Server};
+use ganswer::{ServeFault, Server};
 use gdialogue::{Answer, Side};
 use gfetchreply::FetchReply;
 use ggrammar::laws::grammars_are_exact;
 use ggrammar::{Ends, Message, MessageFault, Step, Why};
-use gobject::Packer;
 use grequest::{FetchRequest, LsRefsRequest, Request, RequestReader};
 use std::alloc::Allocator;
 use std::mem;
@@ -50,9 +49,9 @@ pub(crate) enum Closing {
 /// The server's end of a connection, which receives one request after another. The packer is asked
 /// for at most one pack for each request.
 #[derive(Drop)]
-pub(crate) struct LentSide<'s, 'p, 'k, A: Allocator + Copy, K> {
+pub(crate) struct LentSide<'s, 'p, A: Allocator + Copy, K> {
     server: &'s Server<A>,
-    packer: &'p mut OnePack<'k, K>,
+    packer: &'p mut K,
     ends: Ends,
     // The maximum number of requests.
     most: u32,
@@ -64,14 +63,14 @@ pub(crate) struct LentSide<'s, 'p, 'k, A: Allocator + Copy, K> {
     closing: Option<Closing>,
 }
 
-impl<'s, 'p, 'k, A: Allocator + Copy, K> LentSide<'s, 'p, 'k, A, K> {
+impl<'s, 'p, A: Allocator + Copy, K> LentSide<'s, 'p, A, K> {
     /// Returns a side that has received no message, and accepts at most `most` requests.
     pub(crate) fn new(
         server: &'s Server<A>,
-        packer: &'p mut OnePack<'k, K>,
+        packer: &'p mut K,
         ends: Ends,
         most: u32,
-    ) -> LentSide<'s, 'p, 'k, A, K>
+    ) -> LentSide<'s, 'p, A, K>
         ensures server { result.server.now ≡ server.now }
         ensures packer { result.packer.now ≡ packer.old }
         ensures in_place { result.packer.ghost_name ≡ packer.entry.ghost_name }
@@ -115,20 +114,22 @@ impl<'s, 'p, 'k, A: Allocator + Copy, K> LentSide<'s, 'p, 'k, A, K> {
     }
 
     /// Consumes the side, and returns only the packer.
-    pub(crate) fn into_packer(self) -> &'p mut OnePack<'k, K>
+    pub(crate) fn into_packer(self) -> &'p mut K
         ensures value { result.now ≡ self.entry.packer.now }
         ensures in_place { result.ghost_name ≡ self.entry.packer.ghost_name }
     {
         let LentSide { packer, .. } = self;
         packer
     }
+}
 
+impl<'s, 'p, A: Allocator + Copy, K: Recorded<A>> LentSide<'s, 'p, A, K> {
     // Counts a reply, and returns whether the connection accepts another request.
     fn count(&mut self) -> bool
         ensures goes { result ≡ nat_lt self.new.requests self.new.most }
         ensures fewer { self.new.requests < self.new.most
             → self.new.requests ≡ self.old.requests + 1 }
-        ensures counts { CountsReply self.old self.new }
+        ensures counts { CountsReply K.once self.old self.new }
     {
         self.earlier = self.requests;
         self.requests = self.requests.saturating_add(1);
@@ -144,7 +145,7 @@ impl<'s, 'p, 'k, A: Allocator + Copy, K> LentSide<'s, 'p, 'k, A, K> {
             × (goes ≡ nat_lt self.new.requests self.new.most) }
         ensures fewer { (reply : ServerReply A (Lent A) ℕ) → result ≡ Answer.GoesOn reply
             → self.new.most - self.new.requests < self.old.most - self.old.requests }
-        ensures counts { CountsReply self.old self.new }
+        ensures counts { CountsReply K.once self.old self.new }
     {
         let (server, ends) = (self.server, self.ends);
         let goes_on = self.count();
@@ -160,7 +161,7 @@ impl<'s, 'p, 'k, A: Allocator + Copy, K> LentSide<'s, 'p, 'k, A, K> {
             × (goes ≡ nat_lt self.new.requests self.new.most) }
         ensures fewer { (reply : ServerReply A (Lent A) ℕ) → result ≡ Answer.GoesOn reply
             → self.new.most - self.new.requests < self.old.most - self.old.requests }
-        ensures counts { CountsReply self.old self.new }
+        ensures counts { CountsReply K.once self.old self.new }
     {
         let (server, ends) = (self.server, self.ends);
         let goes_on = self.count();
@@ -172,7 +173,7 @@ impl<'s, 'p, 'k, A: Allocator + Copy, K> LentSide<'s, 'p, 'k, A, K> {
     fn decline(&mut self, fault: ServeFault) -> ServerReply<A, Lent<'s, A>, usize>
         ensures said { (said : List Packet) (goes : Bool)
             → may_of server_of gives_lent result said goes → said ≡ err_packets fault }
-        ensures closes { ClosesAs (Closing.Refused fault) self.old self.new }
+        ensures closes { ClosesAs K.once (Closing.Refused fault) self.old self.new }
     {
         let words = words_of(&fault);
         self.earlier = self.requests;
@@ -184,35 +185,26 @@ impl<'s, 'p, 'k, A: Allocator + Copy, K> LentSide<'s, 'p, 'k, A, K> {
     fn close(&mut self, closing: Closing) -> ServerReply<A, Lent<'s, A>, usize>
         ensures said { (said : List Packet) (goes : Bool)
             → may_of server_of gives_lent result said goes → said ≡ [] }
-        ensures closes { ClosesAs closing self.old self.new }
+        ensures closes { ClosesAs K.once closing self.old self.new }
     {
         self.earlier = self.requests;
         self.closing = Some(closing);
         ServerReply::Speech(Speech::silent())
     }
-}
 
-impl<'s, 'p, 'k, A: Allocator + Copy, K: Packer<A>> LentSide<'s, 'p, 'k, A, K> {
-    // Returns the answer to a fetch request. After a pack, prepares the packer for the next answer.
-    #[tactic(auto, using(crate::proofs::LentLemmas::never_failed))]
+    // Returns the answer to a fetch request.
     fn fetch(&mut self, asked: &FetchRequest<A>) -> Result<FetchReply<A>, ServeFault>
-        ensures answers { self.old.packer.now.answered ≡ Unasked → MatchResult result
-            (λ reply. FetchAnswer self.old.server.now (MayPack (K.packs self.old.packer.now.packer))
+        ensures answers { (K.once self.old.packer.now).answered ≡ Unasked → MatchResult result
+            (λ reply. FetchAnswer self.old.server.now (K.packs (K.once self.old.packer.now).packer)
             asked.now.asked (reply_in reply))
-            (FetchRefuses self.old.server.now (K.pack_fails self.old.packer.now.packer)
+            (FetchRefuses self.old.server.now (K.fails (K.once self.old.packer.now).packer)
             asked.now.asked) }
-        ensures packing { self.old.packer.now.answered ≡ Unasked → MatchResult result
-            (λ _. self.new.packer.now.answered ≡ Unasked)
-            (λ fault. self.new.packer.now.answered ≡ packing_of_fault fault) }
-        ensures asks { AsksPacker self.old self.new }
+        ensures packing { (K.once self.old.packer.now).answered ≡ Unasked → MatchResult result
+            (λ _. (K.once self.new.packer.now).answered ≡ Unasked)
+            (λ fault. (K.once self.new.packer.now).answered ≡ packing_of_fault fault) }
+        ensures asks { AsksPacker K.once self.old self.new }
     {
-        match self.packer.last_packing() {
-            Packing::Unasked => {}
-            Packing::Packed | Packing::Failed(_) => return Err(ServeFault::Memory),
-        }
-        let reply = self.server.answer_fetch(asked, &mut *self.packer)?;
-        self.packer.renew();
-        Ok(reply)
+        self.packer.answer(self.server, asked)
     }
 }
 
@@ -277,12 +269,11 @@ fn is_first_end(fault: &MessageFault) -> bool
     }
 }
 
-impl<'s, 'p, 'k, A: Allocator + Copy, K: Packer<A>> Side<
+impl<'s, 'p, A: Allocator + Copy, K: Recorded<A>> Side<
     RequestReader<A>,
     ServerReply<A, Lent<'s, A>, usize>,
-> for LentSide<'s, 'p, 'k, A, K> {
+> for LentSide<'s, 'p, A, K> {
     ghost use Rattle.std.specs.Prelude.{◌-◌};
-    ghost use Rattle.gobject.specs.Packs.{MayPack};
     ghost use Rattle.grequest.specs.Requests.{brings};
     ghost use Rattle.gserver.specs.steps.Lending.{AnswersLent, HearsRequest, OpensLent, RefusesLent, judge_lent};
 
@@ -292,12 +283,11 @@ impl<'s, 'p, 'k, A: Allocator + Copy, K: Packer<A>> Side<
 
     ghost hears = { HearsRequest };
 
-    ghost opens = { OpensLent };
+    ghost opens = { OpensLent K.once };
 
-    ghost answers = { λ old lines said goes new.
-        AnswersLent (λ packer. MayPack (K.packs packer)) K.pack_fails old lines said goes new };
+    ghost answers = { AnswersLent K.once K.packs K.fails };
 
-    ghost refuses = { RefusesLent };
+    ghost refuses = { RefusesLent K.once };
 
     ghost messages = { λ side. side.most - side.requests };
 

@@ -108,6 +108,7 @@ mod host;
 mod lent;
 mod lent_side;
 mod listing;
+mod recorded;
 mod ref_lines;
 mod refusal;
 mod reply;

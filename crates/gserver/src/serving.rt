@@ -13,6 +13,7 @@ ghost use Rattle.gserver.specs.steps.Lending.{EndsTalk, IsFresh, connection_end,
 use crate::advertising::{advertise, refuse_first};
 use crate::error_line::report;
 use crate::lent_side::{Closing, LentSide};
+use crate::recorded::Recorded;
 use crate::side::MAX_REQUESTS;
 use ganswer::{OnePack, ServeFault, Server};
 use gdialogue::run_dialogue;
@@ -87,15 +88,7 @@ pub fn serve_one<S: Source, W: Sink, A: Allocator + Copy, K: Packer<A>>(
     ensures source_loans { S.loans source.new ≡ S.loans source.old }
     ensures sink_loans { W.loans sink.new ≡ W.loans sink.old }
 {
-    let room = match Room::new(server.graph().allocator()) {
-        Ok(room) => room,
-        Err(_) => return refuse_one(ServeFault::Reader(PacketFault::Memory), sink),
-    };
-    let side = LentSide::new(server, packer, ends, 1);
-    let (driven, mut side) = talk(side, room, source, sink);
-    let end = exchange_end(driven, side.take_closing());
-    let _packer = side.into_packer();
-    end
+    exchange(server, packer, ends, source, sink)
 }
 
 /// Serves one connection: writes the advertisement, and then reads requests one by one and replies
@@ -127,6 +120,56 @@ pub fn serve<S: Source, W: Sink, A: Allocator + Copy, K: Packer<A>>(
     ensures source_loans { S.loans source.new ≡ S.loans source.old }
     ensures sink_loans { W.loans sink.new ≡ W.loans sink.old }
 {
+    converse(server, packer, ends, source, sink)
+}
+
+// Serves one request, as `serve_one` does.
+fn exchange<S: Source, W: Sink, A: Allocator + Copy, K: Recorded<A>>(
+    server: &Server<A>,
+    packer: &mut K,
+    ends: Ends,
+    source: &mut S,
+    sink: &mut W,
+) -> ExchangeEnd
+    requires unasked { (K.once packer.old).answered ≡ Unasked }
+    ensures exchange { ServesOne server.now (K.packs (K.once packer.old).packer)
+        (K.fails (K.once packer.old).packer) ends
+        (input_of S.remaining S.is_down source.old source.new)
+        (output_of W.contents W.passed_on W.is_down sink.old sink.new) result }
+    ensures packing { ReportsPacking result (K.once packer.new).answered }
+    ensures packer { (K.once packer.new).packer ≡ (K.once packer.old).packer }
+    ensures source_loans { S.loans source.new ≡ S.loans source.old }
+    ensures sink_loans { W.loans sink.new ≡ W.loans sink.old }
+{
+    let room = match Room::new(server.graph().allocator()) {
+        Ok(room) => room,
+        Err(_) => return refuse_one(ServeFault::Reader(PacketFault::Memory), sink),
+    };
+    let side = LentSide::new(server, packer, ends, 1);
+    let (driven, mut side) = talk(side, room, source, sink);
+    let end = exchange_end(driven, side.take_closing());
+    let _packer = side.into_packer();
+    end
+}
+
+// Serves a connection, as `serve` does.
+fn converse<S: Source, W: Sink, A: Allocator + Copy, K: Recorded<A>>(
+    server: &Server<A>,
+    packer: &mut K,
+    ends: Ends,
+    source: &mut S,
+    sink: &mut W,
+) -> Served
+    requires unasked { (K.once packer.old).answered ≡ Unasked }
+    ensures serves { Serves server.now (K.packs (K.once packer.old).packer)
+        (K.fails (K.once packer.old).packer) ends
+        (input_of S.remaining S.is_down source.old source.new)
+        (output_of W.contents W.passed_on W.is_down sink.old sink.new) result.requests result.end }
+    ensures packing { ReportsLastPacking result.end (K.once packer.new).answered }
+    ensures packer { (K.once packer.new).packer ≡ (K.once packer.old).packer }
+    ensures source_loans { S.loans source.new ≡ S.loans source.old }
+    ensures sink_loans { W.loans sink.new ≡ W.loans sink.old }
+{
     let room = match Room::new(server.graph().allocator()) {
         Ok(room) => room,
         Err(_) => {
@@ -149,14 +192,14 @@ pub fn serve<S: Source, W: Sink, A: Allocator + Copy, K: Packer<A>>(
 
 // Runs the dialogue of a side that has received no message. Returns whether the sink failed, and the
 // side.
-fn talk<'s, 'p, 'k, S: Source, W: Sink, A: Allocator + Copy, K: Packer<A>>(
-    side: LentSide<'s, 'p, 'k, A, K>,
+fn talk<'s, 'p, S: Source, W: Sink, A: Allocator + Copy, K: Recorded<A>>(
+    side: LentSide<'s, 'p, A, K>,
     room: Room<A>,
     source: &mut S,
     sink: &mut W,
-) -> (Result<bool, TalkFault>, LentSide<'s, 'p, 'k, A, K>)
-    requires { IsFresh side }
-    ensures ends { EndsTalk (λ packer. MayPack (K.packs packer)) K.pack_fails side.entry
+) -> (Result<bool, TalkFault>, LentSide<'s, 'p, A, K>)
+    requires { IsFresh K.once side }
+    ensures ends { EndsTalk K.once K.packs K.fails side.entry
         (input_of S.remaining S.is_down source.old source.new)
         (output_of W.contents W.passed_on W.is_down sink.old sink.new) result.1 result.0 }
     ensures source_loans { S.loans source.new ≡ S.loans source.old }

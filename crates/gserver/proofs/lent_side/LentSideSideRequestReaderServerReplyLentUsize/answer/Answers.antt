@@ -1,5 +1,4 @@
 use Rattle.std.proofs.Common.{◌∙◌, List, ap, refl, arith}
-use Rattle.gobject.specs.Packs.{MayPack}
 use Rattle.gpkt.specs.Packets.{Packet}
 use Rattle.ggrammar.specs.declared.ends.Ends.{Ends}
 use Rattle.grequest.specs.Asked.{Empty, Fetches, Ls}
@@ -15,7 +14,7 @@ returns-in-Empty-clause-answers g c = λ lines said goes whole hears may.
     let old = c.args.self.now in
     let says = says_request old.server.now.graph.format c.args.message lines Empty hears.judged whole
     (c.in-Empty.ensures.asked ∙ ap (λ (s : State). s.asked) hears.held) in
-    closed (λ packer. MayPack (g.K.Packer.packs packer)) g.K.Packer.pack_fails old Empty lines said goes says c.close.new.self refl c.close.ensures.closes
+    closed g.K.Recorded.once g.K.Recorded.packs g.K.Recorded.fails old Empty lines said goes says c.close.new.self refl c.close.ensures.closes
     (c.close.ensures.said said may.1.0 may.1.1) may.0
 
 pub returns-in-Ls-clause-answers : goal.returns-in-Ls-clause-answers
@@ -25,8 +24,8 @@ returns-in-Ls-clause-answers g c = λ lines said goes whole hears may.
     let says = says_request old.server.now.graph.format c.args.message lines asked hears.judged whole
     (c.in-Ls.ensures.asked ∙ ap (λ (s : State). s.asked) hears.held) in
     let r = c.list.ensures.replies said goes may in
-    replied (λ packer. MayPack (g.K.Packer.packs packer)) g.K.Packer.pack_fails old asked lines said goes says old c.list.new.self (reply.Ls r.0.0)
-    (keeps_all old) c.list.ensures.counts (λ empty. absurd (cc empty)) (λ ready. ready.unasked) (λ ready. r.0.1) r.0.2 r.1
+    replied g.K.Recorded.once g.K.Recorded.packs g.K.Recorded.fails old asked lines said goes says old c.list.new.self (reply.Ls r.0.0)
+    (keeps_all g.K.Recorded.once old) c.list.ensures.counts (λ empty. absurd (cc empty)) (λ ready. ready.unasked) (λ ready. r.0.1) r.0.2 r.1
 
 pub returns-in-Ok-clause-answers : goal.returns-in-Ok-clause-answers
 returns-in-Ok-clause-answers g c = λ lines said goes whole hears may.
@@ -35,7 +34,7 @@ returns-in-Ok-clause-answers g c = λ lines said goes whole hears may.
     let says = says_request old.server.now.graph.format c.args.message lines asked hears.judged whole
     (c.in-Fetch.ensures.asked ∙ ap (λ (s : State). s.asked) hears.held) in
     let r = c.send.ensures.replies said goes may in
-    replied (λ packer. MayPack (g.K.Packer.packs packer)) g.K.Packer.pack_fails old asked lines said goes says c.fetch.new.self c.send.new.self
+    replied g.K.Recorded.once g.K.Recorded.packs g.K.Recorded.fails old asked lines said goes says c.fetch.new.self c.send.new.self
     (reply.Fetch (reply_in c.in-Ok.reply)) c.fetch.ensures.asks c.send.ensures.counts (λ empty. absurd (cc empty))
     (λ ready. c.in-Ok.ensures.packing ready.unasked) (λ ready. c.in-Ok.ensures.answers ready.unasked)
     (r.0 ∙ ap (λ (e : Ends). canonical_reply e (reply_in c.in-Ok.reply)) c.fetch.ensures.asks.keeps.ends) r.1
@@ -53,6 +52,6 @@ returns-clause-answers g c = λ lines said goes whole hears may.
     let asked = Fetches c.in-Fetch.asked.asked in
     let says = says_request old.server.now.graph.format c.args.message lines asked hears.judged whole
     (c.in-Fetch.ensures.asked ∙ ap (λ (s : State). s.asked) hears.held) in
-    declined (λ packer. MayPack (g.K.Packer.packs packer)) g.K.Packer.pack_fails old asked lines said goes says c.fetch.new.self c.decline.new.self
+    declined g.K.Recorded.once g.K.Recorded.packs g.K.Recorded.fails old asked lines said goes says c.fetch.new.self c.decline.new.self
     c.in-Err.fault c.fetch.ensures.asks c.decline.ensures.closes (λ ready. c.in-Err.ensures.answers ready.unasked)
     (λ ready. c.in-Err.ensures.packing ready.unasked) (c.decline.ensures.said said may.1.0 may.1.1) may.0
