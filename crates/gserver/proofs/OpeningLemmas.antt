@@ -1,5 +1,5 @@
 -- The start of a connection: the advertisement, or an error packet in its place.
-use Rattle.std.proofs.Common.{◌≡◌, ◌<◌, ◌∙◌, ℕ, List, Option, None, Result, Err, refl, sym, ap, subst, arith, inl, inr}
+use Rattle.std.proofs.Common.{◌≡◌, ◌<◌, ◌∙◌, ℕ, List, None, Result, Err, refl, sym, ap, subst, arith, inl, inr}
 use Rattle.gname.specs.declared.formats.Format.{Format}
 use Rattle.gpkt.specs.Sending.{Input, Output, IsUnread, Passes}
 use Rattle.gpkt.specs.Packets.{canonical_all}
@@ -82,12 +82,6 @@ pub first_packing : (fault : ServeFault) (output : Output) (last : End) (answere
 first_packing fault output (end.Refused reported) answered h is = is ∙ ap packing_of_fault (sym h.0)
 first_packing fault output end.WriteFailed answered h is = tt
 first_packing fault output last answered h is = absurd h
-
-pub unadvertised_packing : (format : Format) (output : Output) (last : End) (answered : Packing)
-    → Advertises format output (Err last) → answered ≡ Unasked → ReportsLastPacking last answered
-unadvertised_packing format output (end.Refused reported) answered h is = is ∙ ap packing_of_fault (sym h.0)
-unadvertised_packing format output end.WriteFailed answered h is = tt
-unadvertised_packing format output last answered h is = absurd h
 
 -- ---- the side before the first message
 

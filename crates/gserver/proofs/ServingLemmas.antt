@@ -1,5 +1,5 @@
 -- A dialogue of a server with a borrowed packer, as an exchange or as a connection.
-use Rattle.std.proofs.Common.{◌≡◌, ◌≢◌, ◌⊎◌, ◌∙◌, ℕ, ◌+◌, ◌<◌, ◌≤◌, Bool, true, false, List, [], ◌∷◌, ◌++◌, codes, length, map, Option, Some, None, Result, Ok, Err, inl, inr, refl, sym, ap, subst, arith, append-nil, append_assoc, length-append}
+use Rattle.std.proofs.Common.{◌≡◌, ◌≢◌, ◌⊎◌, ◌∙◌, ℕ, ◌+◌, ◌<◌, Bool, true, false, List, [], ◌∷◌, ◌++◌, codes, length, map, Option, Some, None, Result, Ok, Err, inl, inr, refl, sym, ap, subst, arith, append-nil, append_assoc, length-append}
 use Rattle.std.specs.Prelude.{IsSome, nat_lt}
 use Rattle.std.proofs.lemmas.Bool.{ltb-false}
 use Rattle.std.proofs.lemmas.List.{nil_from_length}
@@ -18,11 +18,10 @@ use Rattle.ggrammar.specs.Texts.{text_packet}
 use Rattle.ggrammar.specs.declared.ends.Ends.{Ends}
 use Rattle.grequest.specs.Asked.{Asked, Empty, Fetches, Ls}
 use Rattle.glsreply.specs.LsReplies.{LsReply, canonical_reply as ls_packets, ref_packet, unborn_packets}
-use Rattle.gfetchreply.specs.FetchReplies.{Acks, FetchReply, Pack, Ready, ack_packet, canonical_reply as fetch_packets, data_packet, heading_packet, nak_if_none, pieces}
-use Rattle.ganswer.specs.Answers.{Answers, Fetch, Ls as LsAnswered, Nothing, Reply}
+use Rattle.gfetchreply.specs.FetchReplies.{Acks, FetchReply, Pack, Ready, ack_packet, canonical_reply as fetch_packets, heading_packet, nak_if_none}
+use Rattle.ganswer.specs.Answers.{Answers, Fetch, Ls as LsAnswered, Reply}
 use Rattle.ganswer.specs.OnePack.{OnePack, has_failed}
 use Rattle.ganswer.specs.Servers.{Server}
-use Rattle.ganswer.specs.declared.one_pack.Packing.TheVariants.{Unasked}
 use Rattle.ganswer.proofs.LsLemmas.{answer_parts}
 use Rattle.gtalk.specs.Connections.{PassesBytes}
 use Rattle.gtalk.specs.declared.fault.TalkFault.{TalkFault}

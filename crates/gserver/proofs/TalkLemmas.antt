@@ -1,32 +1,31 @@
 -- The dialogue of a server with a borrowed packer, as a list of requests and replies.
-use Rattle.std.proofs.Common.{◌≡◌, ◌≢◌, ◌⊎◌, ◌∙◌, ℕ, ◌+◌, ◌<◌, Bool, true, false, List, [], ◌∷◌, ◌++◌, length, Option, Some, None, Result, Ok, Err, IfErr, IfOk, inl, inr, refl, sym, ap, subst, arith, append-nil, append_assoc, length-append}
-use Rattle.std.specs.Prelude.{All, nat_lt}
+use Rattle.std.proofs.Common.{◌≡◌, ◌≢◌, ◌⊎◌, ◌∙◌, ℕ, ◌+◌, ◌<◌, Bool, true, false, List, [], ◌∷◌, ◌++◌, length, Option, Some, None, Result, Ok, Err, IfErr, IfOk, inl, inr, refl, sym, ap, subst, arith, append-nil, length-append}
+use Rattle.std.specs.Prelude.{All}
 use Rattle.std.specs.List.{flat_map}
 use Rattle.std.proofs.lemmas.Bool.{ltb-true}
 use Rattle.std.proofs.lemmas.Grind.{flat_map-append}
 use Rattle.std.proofs.lemmas.List.{nil_from_length}
 use Rattle.std.proofs.lemmas.List.Elements.{All-nil, All-push}
 use Rattle.std.specs.Io.KnownBytes.{Appends, Consumes, IsAtEnd}
-use Rattle.gpkt.specs.Change.{Change, change_of}
+use Rattle.gpkt.specs.Change.{Change}
 use Rattle.gpkt.proofs.Joins.{reads_none}
-use Rattle.gpkt.specs.Packets.{Bytes, Packet, SpellsAll, canonical_all}
+use Rattle.gpkt.specs.Packets.{Bytes, Packet, canonical_all}
 use Rattle.gpkt.specs.PacketReading.{Reads, ReadsPackets}
 use Rattle.gpkt.specs.Sending.{Input, IsUnwritten, Output, Passes, output_of, rest_of}
 use Rattle.gobject.specs.Packs.{PackFails, Packs}
-use Rattle.ggrammar.specs.Grammar.{HasEndings, IsWhole, Judge, LawsOf}
+use Rattle.ggrammar.specs.Grammar.{HasEndings, Judge, LawsOf}
 use Rattle.ggrammar.specs.Limits.{profile}
 use Rattle.ggrammar.specs.MessageReading.{IsReason}
 use Rattle.ggrammar.specs.declared.fault.MessageFault.{MessageFault}
 use Rattle.ggrammar.specs.declared.fault.Why.{Why}
 use Rattle.ggrammar.specs.declared.fault.Why.TheVariants as why
-use Rattle.grequest.specs.Asked.{Asked, Empty, Fetches}
+use Rattle.grequest.specs.Asked.{Asked, Fetches}
 use Rattle.grequest.specs.Requests.{Says, brings, judge}
-use Rattle.ganswer.specs.OnePack.{OnePack, packing_of_fault}
+use Rattle.ganswer.specs.OnePack.{OnePack}
 use Rattle.ganswer.specs.Servers.{Server}
 use Rattle.ganswer.specs.declared.fault.ServeFault.{ServeFault}
 use Rattle.ganswer.specs.declared.fault.ServeFault.TheVariants as serve
 use Rattle.gtalk.specs.Connections.{HasSent, Spelt}
-use Rattle.gtalk.specs.Partial.{LeavesSource}
 use Rattle.gtalk.specs.declared.conversation.Stop.{Stop}
 use Rattle.gtalk.specs.declared.conversation.Stop.TheVariants as stop
 use Rattle.gtalk.specs.declared.fault.TalkFault.{TalkFault}
@@ -34,10 +33,9 @@ use Rattle.gtalk.specs.declared.fault.TalkFault.TheVariants.{Io, Memory}
 use Rattle.gtalk.specs.Connections.{IsDownBy}
 use Rattle.gdialogue.specs.Dialogues.{Answered, HasReplied, IsRefused as IsRejected, reason_of}
 use Rattle.gdialogue.specs.Dialogues as dialogue
-use Rattle.gdialogue.specs.Running.{BreaksBy, HasBroken, HasRun, Leaves, Receives}
-use Rattle.gdialogue.proofs.Receiving.{RefusesAt, reads_heard, reads_parts, refuses_at}
-use Rattle.gserver.specs.Exchanges.{Declines, IsRefused, IsTurn, ReadsEmpty, ReadsEnd, ReadsTurn, ReadsTurns, RefusesToAnswer, Turn, reply_packets}
-use Rattle.gserver.specs.Refusals.{err_packets}
+use Rattle.gdialogue.specs.Running.{BreaksBy, HasRun, Leaves, Receives}
+use Rattle.gdialogue.proofs.Receiving.{reads_heard, reads_parts, refuses_at}
+use Rattle.gserver.specs.Exchanges.{Declines, IsRefused, IsTurn, RefusesToAnswer, Turn, reply_packets}
 use Rattle.gserver.specs.declared.lent_side.LentSide.{LentSide}
 use Rattle.gserver.specs.steps.Lending.{AnswersAs, AnswersLent, AnswersLines, Closes, DeclinesAsked, EndsTalk, HasFailed, HasSpoken, HasTalked, IsFresh, IsLast, IsReady, KeepsParts, OpensLent, Parts, RefusesLent, RepliesTo, judge_lent, parts_of}
 use Rattle.gserver.specs.steps.Lending as lending

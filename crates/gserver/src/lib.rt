@@ -65,7 +65,8 @@
 //! - For each way in which a connection ends, the contract states whether the source and the sink
 //!   have failed.
 //! - [`err_text`] writes the text of a fault, at most 128 bytes.
-//! - No call panics, overflows or reads out of bounds, and each call returns.
+//! - No call panics, overflows or reads out of bounds. Each call returns if the calls to its source,
+//!   its sink, its host and its packer return.
 //!
 //! # What the contracts do not rule out
 //!
@@ -76,16 +77,16 @@
 //! - A call may queue few packets, and may take as long as the packer or the host needs.
 //! - No contract restricts the pack data that the server side sends before a packet on side band 3.
 //! - [`serve`], [`serve_one`] and [`serve_git`] store the whole pack of a reply. They may report out
-//!   of memory even if there is enough memory. At the start, they may report fault 28 or fault 64 for
-//!   out of memory.
+//!   of memory even if there is enough memory. At the start, they may report fault 28 or fault 64
+//!   for out of memory.
 //! - If the bytes of a source or of a sink are not known, no contract states the bytes read or
 //!   written. If the sink fails, no contract states the length of the written prefix.
 //!
 //! # Only tested
 //!
-//! Only tests check the texts of errors, and how a host finds and opens its repositories. The tests
-//! run `gitrepo serve` with Git's clients (`examples/with-git.sh`), and with many clients at once
-//! (`examples/many-clients.py`).
+//! Only tests check a host's texts of errors, and how a host finds and opens its repositories. The
+//! tests run `gitrepo serve` with Git's clients (`examples/with-git.sh`), and with many clients at
+//! once (`examples/many-clients.py`).
 //!
 //! # Dependencies
 //!

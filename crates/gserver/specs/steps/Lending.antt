@@ -1,13 +1,12 @@
 -- The server's end of a dialogue with a borrowed server and a borrowed packer: its answers, and the end of its dialogue.
-use Rattle.std.specs.Prelude.{◌≡◌, ◌≢◌, ◌⊎◌, ◌+◌, ◌-◌, ◌<◌, ℕ, Bool, true, false, nat_lt, List, [], ◌++◌, length, drop, Option}
+use Rattle.std.specs.Prelude.{◌≡◌, ◌≢◌, ◌⊎◌, ◌+◌, ◌<◌, ℕ, Bool, true, false, nat_lt, List, [], ◌++◌, length, drop, Option}
 use Rattle.std.specs.Prelude.{Some, None, Result, Ok, Err, flat_map}
 use Rattle.std.specs.Io.KnownBytes.{Appends}
-use Rattle.gname.specs.declared.formats.Format.{Format}
 use Rattle.gobject.specs.Packs.{PackFails, Packs}
 use Rattle.gparts.specs.Parts.{Gives}
 use Rattle.gpkt.specs.Devices.{KeepsPassed}
 use Rattle.gpkt.specs.Packets.{Bytes, Packet, canonical_all}
-use Rattle.gpkt.specs.Sending.{Input, IsUnwritten, Output, Passes, PassesAfter, rest_of}
+use Rattle.gpkt.specs.Sending.{Input, IsUnwritten, Output, Passes, rest_of}
 use Rattle.ggrammar.specs.Grammar.{Judge}
 use Rattle.ggrammar.specs.Limits.{profile}
 use Rattle.ggrammar.specs.declared.ends.Ends.{Ends}
@@ -26,7 +25,7 @@ use Rattle.gtalk.specs.Connections.{PassesBytes}
 use Rattle.gtalk.specs.declared.fault.TalkFault.{TalkFault}
 use Rattle.gtalk.specs.declared.fault.TalkFault.TheVariants.{Io, Memory}
 use Rattle.gdialogue.specs.Sides.{SaysNothing}
-use Rattle.gserver.specs.Exchanges.{Declines, IsRefused, IsTurn, ReadsEmpty, ReadsEnd, ReadsTurn, ReadsTurns, Turn, reply_packets}
+use Rattle.gserver.specs.Exchanges.{Declines, IsRefused, ReadsEmpty, ReadsEnd, ReadsTurn, ReadsTurns, Turn, reply_packets}
 use Rattle.gserver.specs.Refusals.{err_packets}
 use Rattle.gserver.specs.declared.lent.Lent.{Lent}
 use Rattle.gserver.specs.declared.lent_side.Closing.{Closing}

@@ -1,4 +1,4 @@
-use Rattle.std.proofs.Common.{◌≡◌, ◌∙◌, inr, refl, sym, ap, subst, arith}
+use Rattle.std.proofs.Common.{◌∙◌, inr, refl, sym, ap, subst, arith}
 use Rattle.gpkt.specs.Sending.{input_of, output_of}
 use Rattle.gpkt.specs.declared.fault.PacketFault.TheVariants.{Memory as NoBuffer}
 use Rattle.ganswer.specs.declared.fault.ServeFault.TheVariants as serve

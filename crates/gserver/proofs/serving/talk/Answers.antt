@@ -1,4 +1,4 @@
-use Rattle.std.proofs.Common.{refl, true}
+use Rattle.std.proofs.Common.{refl}
 use Rattle.gpkt.specs.Sending.{input_of, output_of}
 use Rattle.ggrammar.specs.Limits.{profile}
 use Rattle.gserver.proofs.CompletionLemmas.{reply_completes}

@@ -1,5 +1,4 @@
-use Rattle.std.proofs.Common.{◌∙◌, List, ap, refl, arith}
-use Rattle.gpkt.specs.Packets.{Packet}
+use Rattle.std.proofs.Common.{◌∙◌, ap, refl, arith}
 use Rattle.ggrammar.specs.declared.ends.Ends.{Ends}
 use Rattle.grequest.specs.Asked.{Empty, Fetches, Ls}
 use Rattle.grequest.specs.Requests.{State}
