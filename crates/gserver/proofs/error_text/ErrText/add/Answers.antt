@@ -1,6 +1,6 @@
 use Rattle.std.proofs.Common.{◌≡◌, ℕ, ◌-◌, ◌++◌, ◌∙◌, ap, sym, length, min, take}
 use Rattle.gserver.proofs.TextLemmas.{added}
-use Rattle.gserver.proofs.err_text.ErrText.add.Goals as goal
+use Rattle.gserver.proofs.error_text.ErrText.add.Goals as goal
 
 pub returns : goal.returns
 returns c =
