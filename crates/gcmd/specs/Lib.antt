@@ -24,8 +24,8 @@ pub use Rattle.ggraph.specs.RepositoryText
 pub use Rattle.ggraph.specs.ConnectedRefs
 pub use Rattle.ganswer.specs.Answers
 pub use Rattle.ganswer.specs.Servers
-pub use Rattle.gserve.specs.Conversations
-pub use Rattle.gserve.specs.Exchanges
+pub use Rattle.gserver.specs.Conversations
+pub use Rattle.gserver.specs.Exchanges
 pub use Rattle.grefs.specs.Refspecs
 pub use Rattle.gclientrepo.specs.Repos
 pub use Rattle.gclientrepo.specs.Changes

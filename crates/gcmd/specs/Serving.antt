@@ -13,12 +13,12 @@ use Rattle.gpkt.specs.Sending.{Input, Output, IsUnread, IsUnwritten}
 use Rattle.ganswer.specs.Servers.{Server, IsServer, IsUnserved}
 use Rattle.ganswer.specs.declared.fault.BuildFault.{BuildFault}
 use Rattle.ganswer.specs.declared.fault.BuildFault.TheVariants as build
-use Rattle.gserve.specs.Conversations.{Serves}
-use Rattle.gserve.specs.Exchanges.{ServesOne}
-use Rattle.gserve.specs.declared.connection.End.{End}
-use Rattle.gserve.specs.declared.connection.End.TheVariants as end
-use Rattle.gserve.specs.declared.exchange.ExchangeEnd.{ExchangeEnd}
-use Rattle.gserve.specs.declared.exchange.ExchangeEnd.TheVariants as exchange
+use Rattle.gserver.specs.Conversations.{Serves}
+use Rattle.gserver.specs.Exchanges.{ServesOne}
+use Rattle.gserver.specs.declared.serving.End.{End}
+use Rattle.gserver.specs.declared.serving.End.TheVariants as end
+use Rattle.gserver.specs.declared.serving.ExchangeEnd.{ExchangeEnd}
+use Rattle.gserver.specs.declared.serving.ExchangeEnd.TheVariants as exchange
 use Rattle.gcmd.specs.Programs.{ProgramOutcome}
 use Rattle.gcmd.specs.declared.fault.ProgramFault.{ProgramFault}
 use Rattle.gcmd.specs.declared.fault.ProgramFault.TheVariants as program

@@ -7,13 +7,8 @@ use Rattle.gname.specs.Laws.{IdsHaveOneFormat, IdsHaveTexts}
 use Rattle.gname.specs.declared.formats.Format.{Format}
 use Rattle.gpkt.specs.Packets.{canonical_all}
 use Rattle.gpkt.specs.Sending.{Input}
-use Rattle.gpkt.specs.declared.fault.PacketFault.{PacketFault}
-use Rattle.gpkt.specs.declared.fault.PacketFault.TheVariants as line
 use Rattle.ggrammar.proofs.IdLemmas.{id_text_short}
-use Rattle.ggrammar.specs.Faults.{line_phrase, why_row}
 use Rattle.ggrammar.specs.Limits.{profile}
-use Rattle.ggrammar.specs.declared.fault.Why.{Why}
-use Rattle.ggrammar.specs.declared.fault.Why.TheVariants as why
 use Rattle.gobject.specs.Packs.{PackFails}
 use Rattle.gobject.specs.declared.node.Entry.{Entry}
 use Rattle.gdag.proofs.IdLists.{contains_head}
@@ -25,9 +20,10 @@ use Rattle.ganswer.specs.Faults.{serve_fault_row}
 use Rattle.ganswer.specs.Servers.{Server}
 use Rattle.ganswer.specs.declared.fault.ServeFault.{ServeFault}
 use Rattle.ganswer.specs.declared.fault.ServeFault.TheVariants as serve
-use Rattle.gserve.specs.Conversations.{CannotBegin}
-use Rattle.gserve.specs.Exchanges.{Declines, IsRefused}
-use Rattle.gserve.specs.Refusals.{detail_of, err_text}
+use Rattle.gserver.proofs.SendingLemmas.{phrase_is_short}
+use Rattle.gserver.specs.Conversations.{CannotBegin}
+use Rattle.gserver.specs.Exchanges.{Declines, IsRefused}
+use Rattle.gserver.specs.Refusals.{detail_of, err_text}
 use Rattle.gjoined.proofs.Bytes.{read_from}
 use Rattle.gjoined.proofs.Requests.{RequestLaws, one_request}
 
@@ -37,19 +33,6 @@ pub record IdLaws : Type 0 where
   pub spelt : IdsHaveTexts
 
 -- ---- the texts of refusals
-
-line_is_short : (fault : PacketFault) → length (line_phrase fault) ≤ 22
-line_is_short line.Memory = omega arith
-line_is_short fault = omega arith
-
-why_is_short : (cause : Why) → length (why_row cause).phrase ≤ 22
-why_is_short (why.Line fault) = line_is_short fault
-why_is_short cause = omega arith
-
-phrase_is_short : (fault : ServeFault) → length (serve_fault_row fault).phrase ≤ 22
-phrase_is_short (serve.Reader fault) = line_is_short fault
-phrase_is_short (serve.Request cause) = why_is_short cause.why
-phrase_is_short fault = omega arith
 
 text_is_short : (fault : ServeFault) → length (detail_of fault) ≤ 65 → length (err_text fault) ≤ 128
 unfolding err_text

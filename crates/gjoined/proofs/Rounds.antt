@@ -20,7 +20,7 @@ use Rattle.gclientrepo.specs.declared.ask.RefUpdate.{RefUpdate}
 use Rattle.gclientrepo.specs.declared.fault.RepoFault.{RepoFault}
 use Rattle.ganswer.specs.Answers.{Answers, Reply}
 use Rattle.ganswer.specs.Servers.{IsServer, Server}
-use Rattle.gserve.specs.Exchanges.{IsTurn as IsExchange, Turn as Exchange, reply_packets}
+use Rattle.gserver.specs.Exchanges.{IsTurn as IsExchange, Turn as Exchange, reply_packets}
 use Rattle.gsession.specs.Sessions.{IsSession, SessionState, over}
 use Rattle.gsession.specs.declared.fault.ClientFault.TheVariants.{Repo}
 use Rattle.gsession.specs.declared.stage.Stage.TheVariants.{Settling}

@@ -17,13 +17,13 @@ use Rattle.ghello.specs.Adverts as advert
 use Rattle.ganswer.specs.Laws.{AdvertsWelcome}
 use Rattle.ganswer.specs.Servers.{Server}
 use Rattle.ganswer.specs.declared.fault.ServeFault.{ServeFault}
-use Rattle.gserve.specs.Conversations.{CannotBegin, Converses, HasEnded, IsDueFirst, Serves, advert as first_advert}
-use Rattle.gserve.specs.Conversations.{advert_packets, refusal as first_refusal, talk, talk_bytes}
-use Rattle.gserve.specs.Exchanges.{IsDue, IsRefused, IsTurn as IsExchange, ReadsEmpty, ReadsTurn, ReadsTurns}
-use Rattle.gserve.specs.Exchanges.{Turn as Exchange, refusal, reply, reply_packets}
-use Rattle.gserve.specs.Refusals.{err_packets, err_text}
-use Rattle.gserve.specs.declared.connection.End.{End}
-use Rattle.gserve.specs.declared.connection.End.TheVariants as end
+use Rattle.gserver.specs.Conversations.{CannotBegin, Converses, HasEnded, IsDueFirst, Serves, advert as first_advert}
+use Rattle.gserver.specs.Conversations.{advert_packets, refusal as first_refusal, talk, talk_bytes}
+use Rattle.gserver.specs.Exchanges.{IsDue, IsRefused, IsTurn as IsExchange, ReadsEmpty, ReadsTurn, ReadsTurns}
+use Rattle.gserver.specs.Exchanges.{Turn as Exchange, refusal, reply, reply_packets}
+use Rattle.gserver.specs.Refusals.{err_packets, err_text}
+use Rattle.gserver.specs.declared.serving.End.{End}
+use Rattle.gserver.specs.declared.serving.End.TheVariants as end
 use Rattle.gworld.specs.Laws.{NewWorldsAreSound, RunsKeepPromises}
 use Rattle.gworld.specs.Worlds.{PackTools}
 use Rattle.gjoined.specs.Joined.{Carries}

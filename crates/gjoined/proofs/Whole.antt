@@ -22,7 +22,7 @@ use Rattle.grequest.specs.Asked.{Asked, Empty}
 use Rattle.gclientrepo.specs.Repos.{IsConnectedRepo, RepoState}
 use Rattle.ganswer.specs.Adverts.{advertisement}
 use Rattle.ganswer.specs.Servers.{Server}
-use Rattle.gserve.specs.Conversations.{advert_packets}
+use Rattle.gserver.specs.Conversations.{advert_packets}
 use Rattle.gsession.proofs.CommonLemmas.{tip_ids}
 use Rattle.gsession.proofs.SessionLemmas.{begun}
 use Rattle.gsession.specs.Sessions.{IsSession, SessionState, max_specs, new_session, tells_unborn, tips_of}

@@ -12,8 +12,8 @@ use Rattle.grequest.specs.Asked.{Empty}
 use Rattle.gclientrepo.specs.Repos.{RepoState}
 use Rattle.gclientrepo.specs.declared.ask.RefUpdate.{RefUpdate}
 use Rattle.ganswer.specs.Servers.{Server}
-use Rattle.gserve.specs.Conversations.{Serves, advert_packets}
-use Rattle.gserve.specs.declared.connection.End.{End}
+use Rattle.gserver.specs.Conversations.{Serves, advert_packets}
+use Rattle.gserver.specs.declared.serving.End.{End}
 use Rattle.gfetch.specs.Conversations.{FetchesOver, request_bytes}
 use Rattle.gfetch.specs.Starts.{start_of}
 use Rattle.gfetch.specs.declared.fault.FetchFault.{FetchFault}

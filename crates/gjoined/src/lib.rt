@@ -4,7 +4,7 @@
 //! # Proved
 //!
 //! Consider a fetch of `gfetch` with the default options, and a conversation of a server of
-//! `gserve`. Each end reads exactly the bytes that the other wrote ([`fetches_are_runs`]).
+//! `gserver`. Each end reads exactly the bytes that the other wrote ([`fetches_are_runs`]).
 //!
 //! - **A fetch that succeeds is a run of a world** (`FetchesAreRuns`, specs/Joined.antt). The world
 //!   (`gworld`) is made of the same server and the same client repository. The events are `Begin`,
@@ -35,7 +35,7 @@
 //! # Dependencies
 //!
 //! `gworld` defines worlds and their runs, and `gscenario` their events. `gfetch` and `gsession`
-//! define a client's fetch, and `gclientrepo` its repository. `gserve` and `ganswer` define the
+//! define a client's fetch, and `gclientrepo` its repository. `gserver` and `ganswer` define the
 //! server's conversation. `grequest`, `glsreply`, `gfetchreply`, `ghello` and `ggrammar` define
 //! messages, and `gpkt` packets. `ggraph`, `gdag` and `gobject` define objects, packers and
 //! indexers, `grefs` refspecs, and `gname` names and ids.

@@ -1,5 +1,1 @@
-mod ConnectionLemmas
-mod ErrorLemmas
-mod ExchangeLemmas
-mod SendingLemmas
 mod TalkLemmas

@@ -3,6 +3,7 @@ use Rattle.std.proofs.Common.{◌≡◌, ℕ, ◌<◌, ◌++◌, List, [], lengt
 use Rattle.std.proofs.Common.{subst, ◌∙◌, inl, inr, append-nil, ◌≤◌, ◌+◌, ◌∷◌, All, Err, ap, ap₂, append_assoc, arith}
 use Rattle.std.proofs.lemmas.Bool.{false≢true}
 use Rattle.std.specs.List.{flat_map}
+use Rattle.gpkt.specs.Change.{Change}
 use Rattle.gpkt.specs.PacketReading.{Reads, ReadsPackets}
 use Rattle.gpkt.specs.Packets.{Packet, canonical_all}
 use Rattle.gpkt.specs.Sending.{Input, IsUp}
@@ -27,16 +28,15 @@ use Rattle.ganswer.specs.Answers.{Answers, FetchRefuses, Reply, Fetch}
 use Rattle.ganswer.specs.Servers.{Server}
 use Rattle.ganswer.specs.declared.fault.ServeFault.{ServeFault}
 use Rattle.ganswer.specs.declared.fault.ServeFault.TheVariants as serve
-use Rattle.gserve.specs.Conversations.{CannotBegin, Converses, HasEnded, max_requests, talk_bytes}
+use Rattle.gserver.specs.Conversations.{CannotBegin, Converses, HasEnded, max_requests, talk_bytes}
 use Rattle.gpkt.specs.Sending.{rest_of}
-use Rattle.gserve.specs.Exchanges.{Turn, IsRefused, ReadsEmpty, ReadsTurns, Declines, IsTurn, RefusesToAnswer}
-use Rattle.gserve.specs.Exchanges.{RefusesToRead}
+use Rattle.gserver.specs.Exchanges.{Turn, IsRefused, ReadsEmpty, ReadsTurns, Declines, IsTurn, RefusesToAnswer}
+use Rattle.gserver.specs.Exchanges.{RefusesToRead}
 use Rattle.gserve.specs.Talks.{Stops, Talks, input_of_bytes, last_packets, EndsByOwnFault, HoldsNone, HoldsTurns, IsOwnFault}
-use Rattle.gserve.specs.Refusals.{err_packets}
+use Rattle.gserver.specs.Refusals.{err_packets}
 use Rattle.gserve.specs.Laws.{ServingIsTalking}
-use Rattle.gserve.specs.declared.connection.End.{End}
-use Rattle.gserve.specs.declared.connection.End.TheVariants as end
-use Rattle.gserve.proofs.ConnectionLemmas.{moved_empty, moved_refused}
+use Rattle.gserver.specs.declared.serving.End.{End}
+use Rattle.gserver.specs.declared.serving.End.TheVariants as end
 use Rattle.std.proofs.lemmas.List.Elements.{All-head, All-tail}
 use Rattle.gname.specs.declared.formats.Format.{Format}
 use Rattle.gdag.specs.Graphs.{Holds}
@@ -113,6 +113,19 @@ cannot input bytes serve.Memory h = record { read = refl; down = refl }
 cannot input bytes (serve.Reader line.Memory) h = record { read = refl; down = refl }
 cannot input bytes cause h = absurd h
 
+-- ---- inputs that differ only in whether the source had failed before
+
+module _ {A : Type 0} (server : Server A) (fails : PackFails A) (read : Change) (was before down : Bool) where
+  moved_empty : ReadsEmpty server.graph.format (record { read = read; was_down = was; is_down = down })
+      → ReadsEmpty server.graph.format (record { read = read; was_down = before; is_down = down })
+  moved_empty h = record { packets = h.packets; lines = h.lines; says = h.says; up = h.up }
+
+  moved_refused : (cause : ServeFault) → IsRefused server fails (record { read = read; was_down = was; is_down = down }) cause
+      → IsRefused server fails (record { read = read; was_down = before; is_down = down }) cause
+  moved_refused (serve.Request cause) h = record { front = h.front; refused = h.refused; source = h.source; begun = h.begun }
+  moved_refused cause h =
+      record { packets = h.packets; asked = h.asked; lines = h.lines; says = h.says; declines = h.declines; up = h.up }
+
 pub serving_is_talking : {A : Type 0} (packs : Packs A) (fails : PackFails A) → ServingIsTalking A packs fails
 serving_is_talking packs fails server ends input output requests end.Closed bytes (turns, room, h, passes) is up well =
     let format = server.graph.format in (
@@ -123,7 +136,7 @@ serving_is_talking packs fails server ends input output requests end.Closed byte
           let rest = lines_left left input.read.new last.packets last.lines in (
             subst (λ (n : ℕ). n < max_requests) h.count room,
             rest.0,
-            moved_empty server packs fails ends _ _ _ _ (settled (ReadsEmpty format) input left rest.0 rest.1 up last),
+            moved_empty server fails _ _ _ _ (settled (ReadsEmpty format) input left rest.0 rest.1 up last),
           ))
           (sym (append-nil (talk_bytes format ends turns))),
     )
@@ -143,7 +156,7 @@ serving_is_talking packs fails server ends input output requests (end.Refused ca
           let rest = refused_left server fails left input.read.new input.was_down input.is_down cause last in (
             subst (λ (n : ℕ). n < max_requests) h.count room,
             rest.0,
-            moved_refused server packs fails ends _ _ _ _ cause (settled Last input left rest.0 rest.1 up last),
+            moved_refused server fails _ _ _ _ cause (settled Last input left rest.0 rest.1 up last),
           ))
           refl,
     )

@@ -5,10 +5,10 @@ use Rattle.gpkt.specs.Packets.{Bytes}
 use Rattle.ggrammar.specs.declared.ends.Ends.{Ends}
 use Rattle.gobject.specs.Packs.{PackFails, Packs}
 use Rattle.ganswer.specs.Servers.{IsServer, Server}
-use Rattle.gserve.specs.Conversations.{Serves}
+use Rattle.gserver.specs.Conversations.{Serves}
 use Rattle.gserve.specs.Talks.{Talks, EndsByOwnFault}
-use Rattle.gserve.specs.declared.connection.End.{End}
-use Rattle.gserve.specs.declared.connection.End.TheVariants as end
+use Rattle.gserver.specs.declared.serving.End.{End}
+use Rattle.gserver.specs.declared.serving.End.TheVariants as end
 
 -- if the bytes of the source are known, and neither source nor sink fails, a connection is a conversation over these
 -- bytes, with all output flushed

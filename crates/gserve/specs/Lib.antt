@@ -1,12 +1,11 @@
-pub mod Conversations
-pub mod Exchanges
-pub mod GitConnections
+pub use Rattle.gserver.specs.Refusals
+pub use Rattle.gserver.specs.Exchanges
+pub use Rattle.gserver.specs.Conversations
+pub use Rattle.gserver.specs.Packings
+pub use Rattle.gserver.specs.GitConnections
 pub mod Laws
-pub mod Packings
-pub mod Refusals
 pub mod Replies
 pub mod Talks
-pub mod steps
 pub use Rattle.gpkt.specs.Sending
 pub use Rattle.ganswer.specs.Answers
 pub use Rattle.ganswer.specs.OnePack

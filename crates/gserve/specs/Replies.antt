@@ -6,7 +6,7 @@ use Rattle.gpkt.specs.Packets.{Bytes}
 use Rattle.ggrammar.specs.Writing.{WritesPackets}
 use Rattle.ggrammar.specs.declared.ends.Ends.{Ends}
 use Rattle.ganswer.specs.Answers.{Reply, Nothing}
-use Rattle.gserve.specs.Exchanges.{reply_packets}
+use Rattle.gserver.specs.Exchanges.{reply_packets}
 
 module _
     {W : Type 0} (contents_of passed_on_of : W → Option Bytes) (is_down : W → Bool)

@@ -11,11 +11,11 @@ use Rattle.gobject.specs.Packs.{PackFails, Packs}
 use Rattle.ganswer.specs.Servers.{Server}
 use Rattle.ganswer.specs.declared.fault.ServeFault.{ServeFault}
 use Rattle.ganswer.specs.declared.fault.ServeFault.TheVariants as serve
-use Rattle.gserve.specs.Exchanges.{Turn, IsRefused, ReadsEmpty, ReadsTurns}
-use Rattle.gserve.specs.Conversations.{CannotBegin, max_requests, talk_bytes}
-use Rattle.gserve.specs.Refusals.{err_packets}
-use Rattle.gserve.specs.declared.connection.End.{End}
-use Rattle.gserve.specs.declared.connection.End.TheVariants as end
+use Rattle.gserver.specs.Exchanges.{Turn, IsRefused, ReadsEmpty, ReadsTurns}
+use Rattle.gserver.specs.Conversations.{CannotBegin, max_requests, talk_bytes}
+use Rattle.gserver.specs.Refusals.{err_packets}
+use Rattle.gserver.specs.declared.serving.End.{End}
+use Rattle.gserver.specs.declared.serving.End.TheVariants as end
 
 -- the input if the source does not fail and all of `bytes` except `rest` is read
 abbrev pub input_of_bytes : Bytes → Bytes → Input

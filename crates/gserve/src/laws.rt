@@ -4,8 +4,8 @@
 ghost use Rattle.std.specs.Prelude.{◌≡◌};
 ghost use Rattle.gobject.specs.Packs.{MayPack};
 ghost use Rattle.gserve.specs.Laws.{ServingIsTalking, TalksAreOne};
-ghost use Rattle.gserve.specs.Refusals.{max_err_text};
-ghost use Rattle.gserve.specs.Conversations.{max_requests};
+ghost use Rattle.gserver.specs.Refusals.{max_err_text};
+ghost use Rattle.gserver.specs.Conversations.{max_requests};
 
 use crate::{MAX_ERR_TEXT, MAX_REQUESTS};
 use ganswer::laws::answers_are_one;

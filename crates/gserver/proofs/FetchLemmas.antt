@@ -19,7 +19,7 @@ use Rattle.gserver.specs.Saying.{EndsPack, SaysEnd, SaysFirst, SaysSection, fata
 
 -- ---- the canonical packets of a reply
 
-acks_list : (ends : Ends) (ids : List Id) (said rest : List Packet)
+pub acks_list : (ends : Ends) (ids : List Id) (said rest : List Packet)
     → said ≡ (heading_packet ∷ nak_if_none (map ack_packet ids)) ++ rest → rest ≡ Flush ∷ ends_with ends
     → said ≡ canonical_reply ends (Acks ids)
 unfolding canonical_reply
@@ -30,13 +30,13 @@ acks_list ends ids said rest parts is =
 abbrev pub section : List Packet → Ends → List Packet
 section packets ends = text_packet (codes "packfile") ∷ (packets ++ Flush ∷ ends_with ends)
 
-pack_list : (ends : Ends) (pack : Bytes)
+pub pack_list : (ends : Ends) (pack : Bytes)
     → section (map data_packet (pieces pack)) ends ≡ canonical_reply ends (Pack pack)
 unfolding canonical_reply
 pack_list ends pack =
     ap (λ l. text_packet (codes "packfile") ∷ l) (sym (append_assoc (map data_packet (pieces pack)) (Flush ∷ []) (ends_with ends)))
 
-ready_list : (ends : Ends) (ids : List Id) (pack : Bytes)
+pub ready_list : (ends : Ends) (ids : List Id) (pack : Bytes)
     → heading_packet ∷ (map ack_packet ids ++ ready_packet ∷ Delim ∷ section (map data_packet (pieces pack)) ends)
     ≡ canonical_reply ends (Ready ids pack)
 unfolding canonical_reply

@@ -8,3 +8,10 @@ pub mod FetchLemmas
 pub mod SideLemmas
 pub mod GreetingLemmas
 pub mod ListingLemmas
+pub mod SendingLemmas
+pub mod ErrorLemmas
+pub mod OpeningLemmas
+pub mod LentLemmas
+pub mod CompletionLemmas
+pub mod TalkLemmas
+pub mod ServingLemmas

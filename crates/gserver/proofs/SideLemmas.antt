@@ -152,7 +152,7 @@ formats_differ : (limits given : Limits) → ¬ (request.judge limits Sha1 ≡ r
 unfolding judge_at capability_texts command_form after_word
 formats_differ limits given h = whole_is_not_refused (ap (λ (judge : Judge). judge (Data (codes "command=fetch") ∷ []) Flush) h)
 
-judged_format : (limits given : Limits) (one other : Format) → request.judge limits one ≡ request.judge given other → one ≡ other
+pub judged_format : (limits given : Limits) (one other : Format) → request.judge limits one ≡ request.judge given other → one ≡ other
 judged_format limits given Sha1 Sha1 h = refl
 judged_format limits given Sha256 Sha256 h = refl
 judged_format limits given Sha1 Sha256 h = absurd (formats_differ limits given h)

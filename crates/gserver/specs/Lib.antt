@@ -7,4 +7,9 @@ pub mod Saying
 pub mod Fetching
 pub mod ErrTexts
 pub mod Heard
+pub mod Refusals
+pub mod Exchanges
+pub mod Conversations
+pub mod Packings
+pub mod GitConnections
 pub mod steps

@@ -2,7 +2,7 @@
 
 ghost use Rattle.std.specs.Prelude.{◌≡◌, IfOk};
 
-use crate::err_text::ErrText;
+use crate::error_text::ErrText;
 use ganswer::{ServeFault, Server};
 use ghello::Hello;
 use std::alloc::{AllocError, Allocator};

@@ -1,5 +1,6 @@
-//! The server's end of Git's fetch service, protocol version 2, as a value that does no I/O
-//! (gitprotocol-v2(5)).
+//! The server's end of Git's fetch service, protocol version 2 (gitprotocol-v2(5)). A [`ServerSide`]
+//! is a value that does no I/O. The functions [`serve`], [`serve_one`] and [`serve_git`] serve a
+//! connection over a blocking source and a blocking sink.
 //!
 //! A [`ServerSide`] receives the first line of a connection, and then one request after another. A
 //! [`Host`] owns the repositories. Each repository is a [`ServedRepository`] that all connections
@@ -40,7 +41,32 @@
 //! - Each call to [`Reply::say`](gdialogue::Reply) decreases the number of remaining steps, so
 //!   every reply ends. A connection ends after at most 4,294,967,296 requests.
 //! - An [`ErrText`] stores the first bytes of a text, as many as fit.
-//! - No call panics, overflows or reads out of bounds, and each call returns.
+//! - [`serve`] serves a whole connection over a blocking source and a blocking sink
+//!   (`specs/Conversations.antt`). It writes the advertisement, and then runs a dialogue with the
+//!   borrowed server and the borrowed packer. No first line is read. Requests have the default
+//!   limits. While a request is read, nothing after its last packet is read.
+//! - The advertisement and each reply of [`serve`] are flushed before anything more is read. The
+//!   field [`Served::requests`](Served) is the number of replies.
+//! - [`serve`] ends if the client sends a lone flush packet, the input ends before a request, or the
+//!   sink fails. It also ends after [`MAX_REQUESTS`] requests. The first refused request ends the
+//!   connection with an error packet. If the sink fails, a prefix of the next message was written.
+//!   Once an ls-refs request is read, it is never refused.
+//! - If the packer fails, [`serve`] reports its fault before any packet of the reply. The packer is
+//!   a [`OnePack`], which records the packer's last result (`specs/Packings.antt`). Any other fault
+//!   is reported only if the packer was not asked for a pack for the last request.
+//! - If memory runs out for the buffers or for the advertisement, [`serve`] writes an error packet
+//!   in place of the advertisement, and reads nothing.
+//! - [`serve_one`] has the same contract for one request, without an advertisement
+//!   (`specs/Exchanges.antt`).
+//! - [`serve_git`] first reads the first line of a `git://` connection
+//!   (`specs/GitConnections.antt`). If the line names the served path, byte for byte, the connection
+//!   continues as for [`serve`]. Otherwise an error packet replaces the advertisement, and nothing
+//!   after the line is read. The function [`hear`] reads only a first line.
+//! - For each way in which a connection ends, the contract states whether the source and the sink
+//!   have failed.
+//! - [`err_text`] writes the text of a fault, at most 128 bytes.
+//! - No call panics, overflows or reads out of bounds. Each call returns if the calls to its source,
+//!   its sink, its host and its packer return.
 //!
 //! # What the contracts do not rule out
 //!
@@ -50,12 +76,17 @@
 //! - An error packet for a failed allocation may replace any reply. The connection then ends.
 //! - A call may queue few packets, and may take as long as the packer or the host needs.
 //! - No contract restricts the pack data that the server side sends before a packet on side band 3.
+//! - [`serve`], [`serve_one`] and [`serve_git`] store the whole pack of a reply. They may report out
+//!   of memory even if there is enough memory. At the start, they may report fault 28 or fault 64
+//!   for out of memory.
+//! - If the bytes of a source or of a sink are not known, no contract states the bytes read or
+//!   written. If the sink fails, no contract states the length of the written prefix.
 //!
 //! # Only tested
 //!
-//! Only tests check the texts of errors, and how a host finds and opens its repositories. The tests
-//! run `gitrepo serve` with Git's clients (`examples/with-git.sh`), and with many clients at once
-//! (`examples/many-clients.py`).
+//! Only tests check a host's texts of errors, and how a host finds and opens its repositories. The
+//! tests run `gitrepo serve` with Git's clients (`examples/with-git.sh`), and with many clients at
+//! once (`examples/many-clients.py`).
 //!
 //! # Dependencies
 //!
@@ -65,26 +96,38 @@
 //! `gobject` defines the faults of packers, and `arrayvec` stores texts of bounded length.
 #![tactic(auto)]
 
+mod advertising;
 mod cursor;
-mod err_text;
+mod error_line;
+mod error_text;
 mod fetching;
 mod filling;
+mod git_transport;
 mod greeting;
 mod heard;
 mod host;
+mod lent;
+mod lent_side;
 mod listing;
+mod recorded;
 mod ref_lines;
+mod refusal;
 mod reply;
 mod said;
+mod serving;
 mod side;
 mod speech;
 
-pub use crate::err_text::ErrText;
+pub use crate::error_text::ErrText;
 pub use crate::fetching::speak_fetch;
+pub use crate::git_transport::{Export, GitEnd, hear, serve_git};
 pub use crate::greeting::Greeting;
 pub use crate::heard::Heard;
 pub use crate::host::{Host, ServedRepository};
 pub use crate::listing::Listing;
+pub use crate::refusal::{MAX_ERR_TEXT, err_text};
 pub use crate::reply::ServerReply;
+pub use crate::serving::{End, ExchangeEnd, Served, serve, serve_one};
 pub use crate::side::{MAX_REQUESTS, ServerSide};
 pub use crate::speech::Speech;
+pub use ganswer::{OnePack, ServeFault, Server};

@@ -7,7 +7,7 @@ ghost use Rattle.gobject.specs.Faults.{pack_fault_text};
 ghost use Rattle.ggrammar.specs.declared.ends.Ends.{Ends};
 ghost use Rattle.gserver.specs.steps.Stepping.{FollowsHeading, StepsFrom, end_of, max_words};
 
-use crate::err_text::ErrText;
+use crate::error_text::ErrText;
 use crate::filling::{Piece, say_piece};
 use gfetchreply::Acks;
 use ggrammar::Ends;

@@ -14,7 +14,7 @@ ghost use Rattle.gserver.specs.Replying.{may_of};
 ghost use Rattle.gserver.specs.Serving.{AnswersAsked, AnswersHello, CannotAnswer, CannotGreet, CannotSend, Greets, IsFresh, LacksMemory, Refuses, SendsFrom, Stays, count_request, goes_on_after, max_requests, messages_of};
 ghost use Rattle.gserver.specs.steps.Answering.{AnswersOf, IsRefusal};
 
-use crate::err_text::ErrText;
+use crate::error_text::ErrText;
 use crate::fetching::speak_fetch;
 use crate::greeting::Greeting;
 use crate::heard::Heard;
@@ -313,9 +313,9 @@ fn refusal_of<A: Allocator + Copy, R: ServedRepository<A> + PartPacker<A>>(
     Answer::Last(ServerReply::Speech(Speech::refusal_of(text)))
 }
 
-// Returns an answer with the reply in `Ok`, or an answer with an error packet if `answered` is
-// `Err`.
-fn answer_of<A: Allocator + Copy, R: ServedRepository<A> + PartPacker<A>>(
+/// Returns an answer with the reply in `Ok`, or an answer with an error packet if `answered` is
+/// `Err`.
+pub(crate) fn answer_of<A: Allocator + Copy, R: ServedRepository<A> + PartPacker<A>>(
     answered: Result<ServerReply<A, R, R::Parts>, ErrText>,
     goes_on: bool,
 ) -> Answer<ServerReply<A, R, R::Parts>>

@@ -3,7 +3,7 @@
 ghost use Rattle.std.specs.Prelude.{◌≡◌};
 
 use crate::cursor::Cursor;
-use crate::err_text::ErrText;
+use crate::error_text::ErrText;
 use crate::said::{Rest, Stepped, step};
 use gdialogue::Said;
 use ggrammar::Ends;

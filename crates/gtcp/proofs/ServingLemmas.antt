@@ -7,8 +7,8 @@ use Rattle.ggrammar.specs.declared.ends.Ends.{Ends}
 use Rattle.gpkt.specs.Change.{Change}
 use Rattle.gpkt.specs.Sending.{Input, Output, output_of}
 use Rattle.ganswer.specs.Servers.{Server}
-use Rattle.gserve.specs.GitConnections.{ServesGit}
-use Rattle.gserve.specs.declared.git_transport.GitEnd.{GitEnd}
+use Rattle.gserver.specs.GitConnections.{ServesGit}
+use Rattle.gserver.specs.declared.git_transport.GitEnd.{GitEnd}
 use Rattle.gcmd.specs.Programs.{ProgramOutcome}
 use Rattle.gcmd.specs.declared.fault.ProgramFault.TheVariants as program
 use Rattle.gtcp.specs.Sockets.{IsServed, ServesEach}

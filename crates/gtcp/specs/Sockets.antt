@@ -15,9 +15,9 @@ use Rattle.grequest.specs.declared.flag.LsRefsFlag.TheVariants.{Symrefs, Peel}
 use Rattle.grequest.specs.Asked.{LsRefsAsked, ls_with, max_prefixes}
 use Rattle.grequest.specs.Building.{no_ls_refs}
 use Rattle.ganswer.specs.Servers.{Server}
-use Rattle.gserve.specs.GitConnections.{ServesGit}
-use Rattle.gserve.specs.declared.git_transport.GitEnd.{GitEnd}
-use Rattle.gserve.specs.declared.git_transport.GitEnd.TheVariants as git
+use Rattle.gserver.specs.GitConnections.{ServesGit}
+use Rattle.gserver.specs.declared.git_transport.GitEnd.{GitEnd}
+use Rattle.gserver.specs.declared.git_transport.GitEnd.TheVariants as git
 use Rattle.gsession.specs.declared.fault.ClientFault.TheVariants as client
 use Rattle.gfetch.specs.Starts.{Start}
 use Rattle.gfetch.specs.declared.fault.FetchFault.{FetchFault}

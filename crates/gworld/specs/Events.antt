@@ -29,8 +29,8 @@ use Rattle.ganswer.specs.Servers.{Server}
 use Rattle.ganswer.specs.declared.fault.BuildFault.{BuildFault}
 use Rattle.ganswer.specs.declared.fault.ServeFault.{ServeFault}
 use Rattle.gserve.specs.Talks.{Talks}
-use Rattle.gserve.specs.declared.connection.End.{End}
-use Rattle.gserve.specs.declared.connection.End.TheVariants as end
+use Rattle.gserver.specs.declared.serving.End.{End}
+use Rattle.gserver.specs.declared.serving.End.TheVariants as end
 use Rattle.gsession.specs.Requesting.{Requests}
 use Rattle.gsession.specs.Sessions.{SessionState, Begins, Hears, ends_session}
 use Rattle.gsession.specs.SettlingRefs.{SettlesSession}

@@ -6,7 +6,7 @@ use Rattle.gobject.specs.Packs.{Indexes, IndexFails, MayPack, PackFails, Packs}
 use Rattle.grequest.specs.Asked.{Asked}
 use Rattle.ganswer.specs.Answers.{Reply}
 use Rattle.ganswer.specs.Servers.{Server}
-use Rattle.gserve.specs.Exchanges.{reply_packets}
+use Rattle.gserver.specs.Exchanges.{reply_packets}
 use Rattle.gclientrepo.specs.Repos.{RepoState}
 use Rattle.gsession.specs.Sessions.{SessionState}
 

@@ -10,8 +10,8 @@ use Rattle.gobject.specs.Packs.{Indexes, IndexFails, PackFails, Packs}
 use Rattle.gclientrepo.specs.Repos.{RepoState}
 use Rattle.grequest.specs.Asked.{LsRefsAsked}
 use Rattle.ganswer.specs.Servers.{Server}
-use Rattle.gserve.specs.GitConnections.{ServesGit}
-use Rattle.gserve.specs.declared.git_transport.GitEnd.{GitEnd}
+use Rattle.gserver.specs.GitConnections.{ServesGit}
+use Rattle.gserver.specs.declared.git_transport.GitEnd.{GitEnd}
 use Rattle.gfetch.specs.Starts.{Start}
 use Rattle.gfetch.specs.declared.fault.FetchFault.{FetchFault}
 use Rattle.gfetch.specs.declared.fetched.Fetched.{Fetched}

@@ -1,2 +1,0 @@
--- Definitions that only private functions and proofs use.
-pub mod Connections
