@@ -1,11 +1,10 @@
 -- A whole fetch over two connected ends is a run of a world.
-use Rattle.std.proofs.Common.{[], ◌∷◌, ◌++◌, ◌≡◌, ◌⊎◌, ◌∙◌, ◌≤◌, ◌+◌, ℕ, false, List, length, map, All, Option, Some, None, Vec}
+use Rattle.std.proofs.Common.{[], ◌∷◌, ◌++◌, ◌≡◌, ◌⊎◌, ◌∙◌, ◌≤◌, ℕ, false, List, length, map, Option, Some, None, Vec}
 use Rattle.std.proofs.Common.{Result, Ok, Err, inl, inr, refl, sym, ap, subst, append-nil, append_assoc}
 use Rattle.std.specs.Io.KnownBytes.{Appends}
 use Rattle.std.specs.List.{flat_map}
 use Rattle.std.specs.Map.{values_of}
 use Rattle.std.proofs.lemmas.List.{append_cancel_right}
-use Rattle.std.proofs.lemmas.List.Elements.{All-cons, All-nil}
 use Rattle.gname.specs.declared.formats.Format.{Format}
 use Rattle.gname.specs.declared.formats.Format.TheVariants.{Sha1, Sha256}
 use Rattle.gpkt.specs.Packets.{Packet, SpellsAll, canonical_all}
@@ -45,7 +44,7 @@ use Rattle.gworld.specs.Worlds.{Kept, PackTools, WorldState, new_world, reply_by
 use Rattle.gworld.specs.declared.outcome.Outcome.{Outcome}
 use Rattle.gworld.specs.declared.outcome.Outcome.TheVariants as outcomes
 use Rattle.gworld.proofs.Runs.{run_maps}
-use Rattle.gjoined.specs.Joined.{AnyFetchIsARun, Carries, FetchesAreRuns, IsOfFetch, IsSomeRun, IsWorldRun}
+use Rattle.gjoined.specs.Joined.{AnyFetchIsARun, Carries, FetchesAreRuns, IsEnding, IsSomeRun, IsWorldRun}
 use Rattle.gjoined.specs.Joined.{events_from, fetch_events, fetch_outcomes, outcomes_from}
 use Rattle.gjoined.proofs.Bytes.{one_front, read_from}
 use Rattle.gjoined.proofs.Errors.{error_bytes, no_advert}
@@ -83,17 +82,6 @@ appends_same (Some bytes) = sym (append-nil bytes)
 
 appends_none : (old new : Option (List ℕ)) → new ≡ old → Appends old new []
 appends_none old new same = subst (λ (o : Option (List ℕ)). Appends old o []) (sym same) (appends_same old)
-
--- the rounds consist of events of a fetch
-rounds_of_fetch : {A : Type 0} (n : ℕ) (kept : List Kept) (late : List (Event A)) → All IsOfFetch late
-    → All IsOfFetch (events_from n kept late)
-rounds_of_fetch n [] late all = all
-rounds_of_fetch n (one ∷ kept) late all =
-    let deliver = event.Deliver n (length (reply_bytes one.reply)) in
-    let rest = events_from (n + 1) kept late in
-    All-cons IsOfFetch event.Ask (event.Serve n ∷ deliver ∷ rest) tt
-    (All-cons IsOfFetch (event.Serve n) (deliver ∷ rest) tt
-    (All-cons IsOfFetch deliver rest tt (rounds_of_fetch (n + 1) kept late all)))
 
 -- steps with listed ends are steps
 listed_run : {A : Type 0} (tools : PackTools A) (w v : WorldState A) (events : List (Event A)) (told : List Outcome)
@@ -301,10 +289,10 @@ module _ {A : Type 0} {tools : PackTools A} (laws : JoinedLaws tools) where
     -- ---- any fetch
 
     some_run : (turns : List Turn) (between : Option (List ℕ)) (late : List (Event A)) (told : List Outcome)
-        (behind : List ℕ) → AreEndsConnected (new_world server repo) → All IsOfFetch late
+        (behind : List ℕ) → AreEndsConnected (new_world server repo) → IsEnding late
         → asked ≡ requests_bytes repo.graph.format turns ++ behind → HasRun turns between late told
-        → IsSomeRun tools server repo asked answered new
-    some_run turns between late told behind ends of_fetch wrote has =
+        → IsSomeRun tools server repo specs asked answered new
+    some_run turns between late told behind ends ending wrote has =
         let w = new_world server repo in
         let then = has.goes in
         let events = event.Begin specs ∷ events_from 0 then.more late in
@@ -316,8 +304,11 @@ module _ {A : Type 0} {tools : PackTools A} (laws : JoinedLaws tools) where
           last = then.last;
           run = listed_run tools w then.last events outcomes run;
           promises = λ can. (laws.keeps w then.last events outcomes ends (laws.sound server repo can) run).0;
-          of_fetch = All-cons IsOfFetch (event.Begin specs) (events_from 0 then.more late) tt
-              (rounds_of_fetch 0 then.more late of_fetch);
+          of_fetch = inr (
+            late,
+            ending,
+            ap (λ (l : List Kept). event.Begin specs ∷ events_from 0 l late) (sym then.replies),
+          );
           repo_after = then.repo_after;
           server_after = then.server_after;
           requests = then.requests ∙ ap (λ (l : List Kept). map (λ (one : Kept). one.asked) l) (sym then.replies);
@@ -330,14 +321,14 @@ module _ {A : Type 0} {tools : PackTools A} (laws : JoinedLaws tools) where
         }
 
     -- a run of no events
-    no_run : new ≡ repo → IsSomeRun tools server repo asked answered new
+    no_run : new ≡ repo → IsSomeRun tools server repo specs asked answered new
     no_run same = record {
       events = [];
       told = [];
       last = new_world server repo;
       run = refl;
       promises = λ can. refl;
-      of_fetch = All-nil IsOfFetch;
+      of_fetch = inl refl;
       repo_after = sym same;
       server_after = refl;
       requests = refl;
@@ -373,17 +364,14 @@ module _ {A : Type 0} {tools : PackTools A} (laws : JoinedLaws tools) where
       stopped : (talk : List Turn) (last : ClientState A) (Rest : Input → Type 0) (behind : List ℕ)
           → Converses tools.indexes tools.index_fails start input talk last Rest
           → asked ≡ requests_bytes repo.graph.format talk ++ behind → new ≡ last.repo
-          → IsSomeRun tools server repo asked answered new
+          → IsSomeRun tools server repo specs asked answered new
       stopped talk last Rest behind conversed wrote same =
-          some_run talk conversed.between [] [] behind ends (All-nil IsOfFetch) wrote
+          some_run talk conversed.between [] [] behind ends (inl refl) wrote
           (runs input back talk last Rest behind [] [] ends valid_sources receives either conversed wrote
           (stops tools server laws.rounds ends.server specs.items valid_sources last new same))
 
-      settle_fetches : All (IsOfFetch {A = A}) (event.Settle ∷ [])
-      settle_fetches = All-cons IsOfFetch event.Settle [] tt (All-nil IsOfFetch)
-
       failed : (fault : FetchFault A) → Fails tools.indexes tools.index_fails start input output new fault
-          → IsSomeRun tools server repo asked answered new
+          → IsSomeRun tools server repo specs asked answered new
       failed fault (cannot_begin cause begins unread unwritten same) = no_run same
       failed fault (no_buffer few unread unwritten same) = no_run same
       failed fault (cannot_hear cause few refuses unwritten same) = no_run same
@@ -403,7 +391,7 @@ module _ {A : Type 0} {tools : PackTools A} (laws : JoinedLaws tools) where
           let f = repo.graph.format in
           let wrote = carried sends (requests_bytes f talk ++ request_bytes f Empty) passes.written in
           some_run talk conversed.between (event.Settle ∷ []) (outcomes.Fault (code_of (client.Repo cause)) ∷ [])
-          (request_bytes f Empty) ends settle_fetches wrote
+          (request_bytes f Empty) ends (inr refl) wrote
           (runs input back talk last (λ (rest : Input). IsLeft rest) (request_bytes f Empty) (event.Settle ∷ [])
           (outcomes.Fault (code_of (client.Repo cause)) ∷ []) ends valid_sources receives either conversed wrote
           (settles_none tools server laws.rounds ends.server specs.items valid_sources last new cause stage asks refs))
@@ -423,12 +411,12 @@ module _ {A : Type 0} {tools : PackTools A} (laws : JoinedLaws tools) where
           h.settles refs)
 
       any : (result : Result (Fetched A) (FetchFault A))
-          → FetchesOver tools.indexes tools.index_fails start input output new result → IsSomeRun tools server repo asked answered new
+          → FetchesOver tools.indexes tools.index_fails start input output new result → IsSomeRun tools server repo specs asked answered new
       any (Err fault) fails = failed fault fails
       any (Ok fetched) h =
           let f = repo.graph.format in
           some_run h.talk h.converses.between (event.Settle ∷ []) (settled_outcome fetched.settled.updates.items ∷ [])
-          (request_bytes f Empty) ends settle_fetches
+          (request_bytes f Empty) ends (inr refl)
           (carried sends (requests_bytes f h.talk ++ request_bytes f Empty) h.passed.written) (succeeds fetched h)
 
   pub fetches_are_runs : FetchesAreRuns tools

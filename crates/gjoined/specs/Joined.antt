@@ -1,6 +1,6 @@
 -- Two connected ends: a client that fetches and a server, each of which reads the bytes that the other wrote. Such a
 -- fetch is a run of a world.
-use Rattle.std.specs.Prelude.{◌≡◌, ◌⊎◌, ⊤, ℕ, ◌+◌, List, [], ◌∷◌, ◌++◌, length, map, All, Option, Some, Result, Ok, Vec}
+use Rattle.std.specs.Prelude.{◌≡◌, ◌⊎◌, ℕ, ◌+◌, List, [], ◌∷◌, ◌++◌, length, map, All, Option, Some, Result, Ok, Vec}
 use Rattle.std.specs.List.{flat_map}
 use Rattle.gpkt.specs.Packets.{Bytes, canonical_all}
 use Rattle.gpkt.specs.Sending.{Input, Output}
@@ -62,14 +62,16 @@ fetch_events specs kept = event.Begin specs ∷ events_from 0 kept (event.Settle
 abbrev pub fetch_outcomes : List Outcome → List RefUpdate → List Outcome
 fetch_outcomes taken updates = outcomes.Done ∷ outcomes_from 0 taken (settled_outcome updates ∷ [])
 
--- the event is one of a fetch: it changes neither repository by hand, and forges and repeats nothing
-abbrev pub IsOfFetch : {A : Type 0} → Event A → Type 0
-IsOfFetch (event.Begin specs) = ⊤
-IsOfFetch event.Ask = ⊤
-IsOfFetch (event.Serve number) = ⊤
-IsOfFetch (event.Deliver number count) = ⊤
-IsOfFetch event.Settle = ⊤
-IsOfFetch _ = ⊥
+-- the events behind the rounds: `Settle`, or none if the fetch failed before
+abbrev pub IsEnding : {A : Type 0} → List (Event A) → Type 0
+IsEnding late = (late ≡ []) ⊎ (late ≡ event.Settle ∷ [])
+
+-- the events of a fetch that may have failed: none, or `Begin`, the rounds with these requests and replies, and perhaps
+-- `Settle`
+abbrev pub AreFetchEvents : {A : Type 0} → Vec Refspec A → List Kept → List (Event A) → Type 0
+AreFetchEvents {A} specs kept events =
+    (events ≡ [])
+    ⊎ ((late : List (Event A)) × IsEnding late × (events ≡ event.Begin specs ∷ events_from 0 kept late))
 
 -- ---- the laws
 
@@ -98,17 +100,17 @@ module _ {A : Type 0} (tools : PackTools A) where
         ++ flat_map (λ one. reply_bytes one.reply) kept ++ more
     pub rest : unread ≡ Some more
 
-  -- A run of the world of this server and this client, with events of a fetch only: its last world has the repository
-  -- `new` and an unchanged server. The client first wrote the requests of the run. It read the advertisement and first
+  -- A run of the world of this server and this client, with the events of a fetch: its last world has the repository
+  -- `new` and an unchanged server. The client first wrote the requests of the run. It first read the advertisement and
   -- the replies of the run, if any. If the world can start, each step keeps its promises.
-  pub record IsSomeRun (server : Server A) (repo : RepoState A) (asked answered : Bytes) (new : RepoState A)
-      : Type 0 where
+  pub record IsSomeRun (server : Server A) (repo : RepoState A) (specs : Vec Refspec A) (asked answered : Bytes)
+      (new : RepoState A) : Type 0 where
     pub events : List (Event A)
     pub told : List Outcome
     pub last : WorldState A
     pub run : Run tools (new_world server repo) events told last
     pub promises : CanStart server repo → RunWith (Promises tools) (new_world server repo) events told last
-    pub of_fetch : All IsOfFetch events
+    pub of_fetch : AreFetchEvents specs last.kept events
     pub repo_after : last.repo ≡ new
     pub server_after : last.server ≡ server
     pub requests : last.sent ≡ map (λ one. one.asked) last.kept
@@ -149,7 +151,7 @@ module _ {A : Type 0} (tools : PackTools A) where
   AnyFetchIsARun =
       (server : Server A) (repo new : RepoState A) (specs : Vec Refspec A) (result : Result (Fetched A) (FetchFault A))
       (input : Input) (asked answered : Bytes) → AreJoined server repo specs asked answered input new result
-      → IsSomeRun server repo asked answered new
+      → IsSomeRun server repo specs asked answered new
 
   -- both laws
   pub record JoinedFetchesAreRuns : Type 0 where
