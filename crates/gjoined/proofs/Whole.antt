@@ -1,5 +1,5 @@
 -- A whole fetch over two connected ends is a run of a world.
-use Rattle.std.proofs.Common.{[], ◌∷◌, ◌++◌, ◌≡◌, ◌⊎◌, ◌∙◌, ◌≤◌, ℕ, false, List, length, map, Option, Some, None, Vec}
+use Rattle.std.proofs.Common.{All, [], ◌∷◌, ◌++◌, ◌≡◌, ◌⊎◌, ◌∙◌, ◌≤◌, ℕ, false, List, length, map, Option, Some, None, Vec}
 use Rattle.std.proofs.Common.{Result, Ok, Err, inl, inr, refl, sym, ap, subst, append-nil, append_assoc}
 use Rattle.std.specs.Io.KnownBytes.{Appends}
 use Rattle.std.specs.List.{flat_map}
@@ -36,6 +36,7 @@ use Rattle.gfetch.specs.declared.fetched.Fetched.{Fetched}
 use Rattle.gscenario.specs.declared.event.Event.{Event}
 use Rattle.gscenario.specs.declared.event.Event.TheVariants as event
 use Rattle.gworld.specs.Events.{Step, settled_outcome}
+use Rattle.gworld.specs.Fetching.{IsDone}
 use Rattle.gworld.specs.Laws.{StepsListed}
 use Rattle.gworld.specs.Runs.{Run, RunWith}
 use Rattle.gworld.specs.Sound.{AreEndsConnected}
@@ -44,8 +45,8 @@ use Rattle.gworld.specs.Worlds.{Kept, PackTools, WorldState, new_world, reply_by
 use Rattle.gworld.specs.declared.outcome.Outcome.{Outcome}
 use Rattle.gworld.specs.declared.outcome.Outcome.TheVariants as outcomes
 use Rattle.gworld.proofs.Runs.{run_maps}
-use Rattle.gjoined.specs.Joined.{AnyFetchIsARun, Carries, FetchesAreRuns, IsEnding, IsSomeRun, IsWorldRun}
-use Rattle.gjoined.specs.Joined.{events_from, fetch_events, fetch_outcomes, outcomes_from}
+use Rattle.gjoined.specs.Joined.{AnyFetchIsARun, AreFetchEvents, Carries, FetchesAreRuns, IsSomeRun, IsWorldRun}
+use Rattle.gjoined.specs.Joined.{events_from, none, rounds, settled, fetch_events, fetch_outcomes, outcomes_from}
 use Rattle.gjoined.proofs.Bytes.{one_front, read_from}
 use Rattle.gjoined.proofs.Errors.{error_bytes, no_advert}
 use Rattle.gjoined.proofs.Plain.{IsPlain}
@@ -288,11 +289,18 @@ module _ {A : Type 0} {tools : PackTools A} (laws : JoinedLaws tools) where
 
     -- ---- any fetch
 
+    -- the events and their outcomes, with these last events
+    abbrev AreEvents : List (Event A) → List Outcome → Type 0
+    AreEvents late told =
+        (kept : List Kept) (taken : List Outcome) → All IsDone taken
+        → AreFetchEvents specs kept (event.Begin specs ∷ events_from 0 kept late)
+        (outcomes.Done ∷ outcomes_from 0 taken told)
+
     some_run : (turns : List Turn) (between : Option (List ℕ)) (late : List (Event A)) (told : List Outcome)
-        (behind : List ℕ) → AreEndsConnected (new_world server repo) → IsEnding late
+        (behind : List ℕ) → AreEndsConnected (new_world server repo) → AreEvents late told
         → asked ≡ requests_bytes repo.graph.format turns ++ behind → HasRun turns between late told
         → IsSomeRun tools server repo specs asked answered new
-    some_run turns between late told behind ends ending wrote has =
+    some_run turns between late told behind ends shape wrote has =
         let w = new_world server repo in
         let then = has.goes in
         let events = event.Begin specs ∷ events_from 0 then.more late in
@@ -304,11 +312,8 @@ module _ {A : Type 0} {tools : PackTools A} (laws : JoinedLaws tools) where
           last = then.last;
           run = listed_run tools w then.last events outcomes run;
           promises = λ can. (laws.keeps w then.last events outcomes ends (laws.sound server repo can) run).0;
-          of_fetch = inr (
-            late,
-            ending,
-            ap (λ (l : List Kept). event.Begin specs ∷ events_from 0 l late) (sym then.replies),
-          );
+          of_fetch = subst (λ (l : List Kept). AreFetchEvents specs l events outcomes) (sym then.replies)
+              (shape then.more then.taken then.done);
           repo_after = then.repo_after;
           server_after = then.server_after;
           requests = then.requests ∙ ap (λ (l : List Kept). map (λ (one : Kept). one.asked) l) (sym then.replies);
@@ -328,7 +333,7 @@ module _ {A : Type 0} {tools : PackTools A} (laws : JoinedLaws tools) where
       last = new_world server repo;
       run = refl;
       promises = λ can. refl;
-      of_fetch = inl refl;
+      of_fetch = none;
       repo_after = sym same;
       server_after = refl;
       requests = refl;
@@ -366,7 +371,7 @@ module _ {A : Type 0} {tools : PackTools A} (laws : JoinedLaws tools) where
           → asked ≡ requests_bytes repo.graph.format talk ++ behind → new ≡ last.repo
           → IsSomeRun tools server repo specs asked answered new
       stopped talk last Rest behind conversed wrote same =
-          some_run talk conversed.between [] [] behind ends (inl refl) wrote
+          some_run talk conversed.between [] [] behind ends (λ kept taken done. rounds taken done) wrote
           (runs input back talk last Rest behind [] [] ends valid_sources receives either conversed wrote
           (stops tools server laws.rounds ends.server specs.items valid_sources last new same))
 
@@ -391,7 +396,7 @@ module _ {A : Type 0} {tools : PackTools A} (laws : JoinedLaws tools) where
           let f = repo.graph.format in
           let wrote = carried sends (requests_bytes f talk ++ request_bytes f Empty) passes.written in
           some_run talk conversed.between (event.Settle ∷ []) (outcomes.Fault (code_of (client.Repo cause)) ∷ [])
-          (request_bytes f Empty) ends (inr refl) wrote
+          (request_bytes f Empty) ends (λ kept taken done. settled taken _ done) wrote
           (runs input back talk last (λ (rest : Input). IsLeft rest) (request_bytes f Empty) (event.Settle ∷ [])
           (outcomes.Fault (code_of (client.Repo cause)) ∷ []) ends valid_sources receives either conversed wrote
           (settles_none tools server laws.rounds ends.server specs.items valid_sources last new cause stage asks refs))
@@ -416,7 +421,7 @@ module _ {A : Type 0} {tools : PackTools A} (laws : JoinedLaws tools) where
       any (Ok fetched) h =
           let f = repo.graph.format in
           some_run h.talk h.converses.between (event.Settle ∷ []) (settled_outcome fetched.settled.updates.items ∷ [])
-          (request_bytes f Empty) ends (inr refl)
+          (request_bytes f Empty) ends (λ kept taken done. settled taken _ done)
           (carried sends (requests_bytes f h.talk ++ request_bytes f Empty) h.passed.written) (succeeds fetched h)
 
   pub fetches_are_runs : FetchesAreRuns tools

@@ -62,16 +62,15 @@ fetch_events specs kept = event.Begin specs ∷ events_from 0 kept (event.Settle
 abbrev pub fetch_outcomes : List Outcome → List RefUpdate → List Outcome
 fetch_outcomes taken updates = outcomes.Done ∷ outcomes_from 0 taken (settled_outcome updates ∷ [])
 
--- the events behind the rounds: `Settle`, or none if the fetch failed before
-abbrev pub IsEnding : {A : Type 0} → List (Event A) → Type 0
-IsEnding late = (late ≡ []) ⊎ (late ≡ event.Settle ∷ [])
-
--- the events of a fetch that may have failed: none, or `Begin`, the rounds with these requests and replies, and perhaps
--- `Settle`
-abbrev pub AreFetchEvents : {A : Type 0} → Vec Refspec A → List Kept → List (Event A) → Type 0
-AreFetchEvents {A} specs kept events =
-    (events ≡ [])
-    ⊎ ((late : List (Event A)) × IsEnding late × (events ≡ event.Begin specs ∷ events_from 0 kept late))
+-- the events of a fetch that may have failed, with these requests and replies, and their outcomes; only `Settle` may fail
+pub data AreFetchEvents {A : Type 0} (specs : Vec Refspec A) (kept : List Kept)
+    : List (Event A) → List Outcome → Type 0 where
+  none : AreFetchEvents specs kept [] []
+  rounds : (taken : List Outcome) → All IsDone taken →
+      AreFetchEvents specs kept (event.Begin specs ∷ events_from 0 kept []) (outcomes.Done ∷ outcomes_from 0 taken [])
+  settled : (taken : List Outcome) (outcome : Outcome) → All IsDone taken →
+      AreFetchEvents specs kept (event.Begin specs ∷ events_from 0 kept (event.Settle ∷ []))
+      (outcomes.Done ∷ outcomes_from 0 taken (outcome ∷ []))
 
 -- ---- the laws
 
@@ -110,7 +109,7 @@ module _ {A : Type 0} (tools : PackTools A) where
     pub last : WorldState A
     pub run : Run tools (new_world server repo) events told last
     pub promises : CanStart server repo → RunWith (Promises tools) (new_world server repo) events told last
-    pub of_fetch : AreFetchEvents specs last.kept events
+    pub of_fetch : AreFetchEvents specs last.kept events told
     pub repo_after : last.repo ≡ new
     pub server_after : last.server ≡ server
     pub requests : last.sent ≡ map (λ one. one.asked) last.kept

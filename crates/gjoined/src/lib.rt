@@ -14,8 +14,8 @@
 //! - The run has the messages that were exchanged. The client wrote the requests of the run and a
 //!   lone flush packet. It read the advertisement and the replies of the run, and nothing more.
 //! - **Any fetch left the repository that a run left**, whatever its result (`AnyFetchIsARun`). The
-//!   run has the events of a fetch, perhaps without `Settle`, or no events. The client first wrote
-//!   the requests of the run, and read its replies.
+//!   run has the events of a fetch, perhaps without `Settle`, or no events. Only `Settle` may fail.
+//!   The client first wrote the requests of the run, and read its replies.
 //! - All promises of a world's steps hold for these runs, if the two ends can start a world. They
 //!   can if they have one object format, and no object differs under the same id.
 //! - The server's conversation may have any end. The client ended it, or the server refused a
