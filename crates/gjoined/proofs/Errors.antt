@@ -24,7 +24,7 @@ use Rattle.gjoined.proofs.Bytes.{none_whole}
 abbrev pub error_packet : Bytes → Packet
 error_packet said = text_packet (codes "ERR " ++ said)
 
--- the rest of the packet's payload behind `ERR `
+-- the rest of the packet's payload further `ERR `
 abbrev rest_of : Bytes → Bytes
 rest_of said = said ++ line_feed ∷ []
 

@@ -131,7 +131,7 @@ NoReplyAfter server tools left tail =
     (asked : Asked) (more : List ℕ) → IsAsked profile server.graph.format asked
     → left ≡ request_bytes server.graph.format asked ++ more → NoReply tools tail
 
--- the rest of a fetch, from the beginning of round `n`, with the events `late` behind the rounds
+-- the rest of a fetch, from the beginning of round `n`, with the events `late` further the rounds
 pub record GoesOn {A : Type 0} (tools : PackTools A) (server : Server A) (w : WorldState A) (n : ℕ)
     (asked answered rest : List ℕ) (new : RepoState A) (late : List (Event A)) (told : List Outcome) : Type 0 where
   pub more : List Kept

@@ -93,7 +93,7 @@ module _ {A : Type 0} {tools : PackTools A} (laws : JoinedLaws tools) where
 
   -- ---- the server's part
 
-  -- what a server wrote behind its replies: nothing, an error packet, or a part of it
+  -- what a server wrote further its replies: nothing, an error packet, or a part of it
   module _ (server : Server A) (input : Input) (output : Output) (other : Output) (back : Input)
       (asked answered : List ℕ) (to : Carries other input asked) (from : Carries output back answered) where
     abbrev sent_bytes : List Exchange → List ℕ

@@ -136,7 +136,7 @@ module _ {A : Type 0} {tools : PackTools A} (laws : JoinedLaws tools) where
     abbrev start : Start A
     start = start_of repo specs.items default_limit Plain
 
-    -- the event `Begin`, and all rounds of the turns, with the events `late` behind them
+    -- the event `Begin`, and all rounds of the turns, with the events `late` after them
     record HasRun (turns : List Turn) (between : Option (List ℕ)) (late : List (Event A)) (told : List Outcome)
         : Type 0 where
       formats : repo.graph.format ≡ format
@@ -151,7 +151,7 @@ module _ {A : Type 0} {tools : PackTools A} (laws : JoinedLaws tools) where
       goes : GoesOn tools server (world_at server session repo [] [] false) 0 (requests_bytes format turns) rest
           (left ++ missing) new late told
 
-    -- the bytes that the client read first, and the bytes behind them
+    -- the bytes that the client read first, and the bytes after them
     read_parts : (first then left missing front whole rest : List ℕ) → answered ≡ front ++ left → front ≡ first ++ then
         → answered ++ missing ≡ whole ++ rest → first ++ (then ++ (left ++ missing)) ≡ whole ++ rest
     read_parts first then left missing front whole rest parts both same =
@@ -160,12 +160,12 @@ module _ {A : Type 0} {tools : PackTools A} (laws : JoinedLaws tools) where
 
     -- the turns of a client over the bytes of a server
     has_run : (input : Input) (back : Output) (talk : List Turn) (last : ClientState A) (Rest : Input → Type 0)
-        (behind : List ℕ) (late : List (Event A)) (told : List Outcome) → AreEndsConnected (new_world server repo)
+        (further : List ℕ) (late : List (Event A)) (told : List Outcome) → AreEndsConnected (new_world server repo)
         → AreSources specs.items → Carries back input answered → HasServed tools server asked answered
         → (conversed : Converses tools.indexes tools.index_fails start input talk last Rest)
-        → asked ≡ requests_bytes repo.graph.format talk ++ behind
+        → asked ≡ requests_bytes repo.graph.format talk ++ further
         → IsEnd tools server specs.items last new late told → HasRun talk conversed.between late told
-    has_run input back talk last Rest behind late told ends valid_sources receives served conversed wrote is_end =
+    has_run input back talk last Rest further late told ends valid_sources receives served conversed wrote is_end =
         let replies = canonical_all (replies_written served.served) ++ served.tail in
         let read = read_from input.read.old conversed.between answered (conversed.packets ++ replies_read talk)
         receives.read conversed.read in
@@ -179,8 +179,8 @@ module _ {A : Type 0} {tools : PackTools A} (laws : JoinedLaws tools) where
         let formats : repo.graph.format ≡ format = one_format repo.graph.format format
         (subst (λ (c : List Capability). check_fault repo.graph.format c ≡ None) hears.same
         conversed.advertises.fits) in
-        let here : asked ≡ requests_bytes format talk ++ behind =
-        wrote ∙ ap (λ (f : Format). requests_bytes f talk ++ behind) formats in
+        let here : asked ≡ requests_bytes format talk ++ further =
+        wrote ∙ ap (λ (f : Format). requests_bytes f talk ++ further) formats in
         let first = hear_advert start conversed.capabilities in
         let valid = begun_session repo specs.items conversed.capabilities ends.repo ends.graph conversed.few in
         let begun_step = stepped tools server laws.rounds ends.server specs.items valid_sources (new_world server repo)
@@ -202,7 +202,7 @@ module _ {A : Type 0} {tools : PackTools A} (laws : JoinedLaws tools) where
           first = begun_step.0;
           read = served.wrote;
           goes = goes_on tools server laws.rounds ends.server specs.items valid_sources talk served.served first last []
-              [] false 0 served.front served.left behind parts.1 rest served.tail new late told refl refl begun_step.1
+              [] false 0 served.front served.left further parts.1 rest served.tail new late told refl refl begun_step.1
               plain conversed.each served.each served.spelt (sym served.parts ∙ here) parts.4 hears.left served.none
               is_end;
         }
@@ -222,15 +222,15 @@ module _ {A : Type 0} {tools : PackTools A} (laws : JoinedLaws tools) where
         refused.wrote)
 
     runs : (input : Input) (back : Output) (talk : List Turn) (last : ClientState A) (Rest : Input → Type 0)
-        (behind : List ℕ) (late : List (Event A)) (told : List Outcome) → AreEndsConnected (new_world server repo)
+        (further : List ℕ) (late : List (Event A)) (told : List Outcome) → AreEndsConnected (new_world server repo)
         → AreSources specs.items → Carries back input answered
         → HasServed tools server asked answered ⊎ HasRefused answered
         → (conversed : Converses tools.indexes tools.index_fails start input talk last Rest)
-        → asked ≡ requests_bytes repo.graph.format talk ++ behind
+        → asked ≡ requests_bytes repo.graph.format talk ++ further
         → IsEnd tools server specs.items last new late told → HasRun talk conversed.between late told
-    runs input back talk last Rest behind late told ends valid_sources receives (inl served) conversed wrote is_end =
-        has_run input back talk last Rest behind late told ends valid_sources receives served conversed wrote is_end
-    runs input back talk last Rest behind late told ends valid_sources receives (inr refused) conversed wrote is_end =
+    runs input back talk last Rest further late told ends valid_sources receives (inl served) conversed wrote is_end =
+        has_run input back talk last Rest further late told ends valid_sources receives served conversed wrote is_end
+    runs input back talk last Rest further late told ends valid_sources receives (inr refused) conversed wrote is_end =
         absurd (refused_none input back talk last Rest receives refused conversed)
 
     -- the replies of a run, as the client read them
@@ -297,10 +297,10 @@ module _ {A : Type 0} {tools : PackTools A} (laws : JoinedLaws tools) where
         (outcomes.Done ∷ outcomes_from 0 taken told)
 
     some_run : (turns : List Turn) (between : Option (List ℕ)) (late : List (Event A)) (told : List Outcome)
-        (behind : List ℕ) → AreEndsConnected (new_world server repo) → AreEvents late told
-        → asked ≡ requests_bytes repo.graph.format turns ++ behind → HasRun turns between late told
+        (further : List ℕ) → AreEndsConnected (new_world server repo) → AreEvents late told
+        → asked ≡ requests_bytes repo.graph.format turns ++ further → HasRun turns between late told
         → IsSomeRun tools server repo specs asked answered new
-    some_run turns between late told behind ends shape wrote has =
+    some_run turns between late told further ends shape wrote has =
         let w = new_world server repo in
         let then = has.goes in
         let events = event.Begin specs ∷ events_from 0 then.more late in
@@ -317,8 +317,8 @@ module _ {A : Type 0} {tools : PackTools A} (laws : JoinedLaws tools) where
           repo_after = then.repo_after;
           server_after = then.server_after;
           requests = then.requests ∙ ap (λ (l : List Kept). map (λ (one : Kept). one.asked) l) (sym then.replies);
-          behind = behind;
-          wrote = wrote ∙ ap (λ (b : List ℕ). b ++ behind) (requests_went turns between late told has);
+          further = further;
+          wrote = wrote ∙ ap (λ (b : List ℕ). b ++ further) (requests_went turns between late told has);
           more = has.left;
           read = inr (replies_came turns between late told has
               ∙ ap (λ (l : List Kept). canonical_all (advert_packets format)
@@ -337,7 +337,7 @@ module _ {A : Type 0} {tools : PackTools A} (laws : JoinedLaws tools) where
       repo_after = sym same;
       server_after = refl;
       requests = refl;
-      behind = asked;
+      further = asked;
       wrote = refl;
       more = [];
       read = inl refl;
@@ -366,13 +366,13 @@ module _ {A : Type 0} {tools : PackTools A} (laws : JoinedLaws tools) where
         (receives : Carries back input answered)
         (either : HasServed tools server asked answered ⊎ HasRefused answered) where
       -- a fetch that stopped after its turns
-      stopped : (talk : List Turn) (last : ClientState A) (Rest : Input → Type 0) (behind : List ℕ)
+      stopped : (talk : List Turn) (last : ClientState A) (Rest : Input → Type 0) (further : List ℕ)
           → Converses tools.indexes tools.index_fails start input talk last Rest
-          → asked ≡ requests_bytes repo.graph.format talk ++ behind → new ≡ last.repo
+          → asked ≡ requests_bytes repo.graph.format talk ++ further → new ≡ last.repo
           → IsSomeRun tools server repo specs asked answered new
-      stopped talk last Rest behind conversed wrote same =
-          some_run talk conversed.between [] [] behind ends (λ kept taken done. rounds taken done) wrote
-          (runs input back talk last Rest behind [] [] ends valid_sources receives either conversed wrote
+      stopped talk last Rest further conversed wrote same =
+          some_run talk conversed.between [] [] further ends (λ kept taken done. rounds taken done) wrote
+          (runs input back talk last Rest further [] [] ends valid_sources receives either conversed wrote
           (stops tools server laws.rounds ends.server specs.items valid_sources last new same))
 
       failed : (fault : FetchFault A) → Fails tools.indexes tools.index_fails start input output new fault

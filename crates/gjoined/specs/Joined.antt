@@ -41,7 +41,7 @@ pub record Carries (output : Output) (input : Input) (bytes : Bytes) : Type 0 wh
 
 -- ---- the events of a fetch
 
--- the three events of each round from round `n` on, and the events `late` behind them: in a round the client sends its
+-- the three events of each round from round `n` on, and the events `late` after them: in a round the client sends its
 -- request, the server replies, and the complete reply arrives
 abbrev pub events_from : {A : Type 0} → ℕ → List Kept → List (Event A) → List (Event A)
 events_from n [] late = late
@@ -113,8 +113,8 @@ module _ {A : Type 0} (tools : PackTools A) where
     pub repo_after : last.repo ≡ new
     pub server_after : last.server ≡ server
     pub requests : last.sent ≡ map (λ one. one.asked) last.kept
-    pub behind : Bytes
-    pub wrote : asked ≡ flat_map (λ one. request_bytes server.graph.format one) last.sent ++ behind
+    pub further : Bytes
+    pub wrote : asked ≡ flat_map (λ one. request_bytes server.graph.format one) last.sent ++ further
     pub more : Bytes
     pub read : (last.kept ≡ []) ⊎ (answered ≡ canonical_all (advert_packets server.graph.format)
         ++ flat_map (λ one. reply_bytes one.reply) last.kept ++ more)

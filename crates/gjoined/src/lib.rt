@@ -6,11 +6,11 @@
 //! Consider a fetch of `gfetch` with the default options, and a conversation of a server of
 //! `gserver`. Each end reads exactly the bytes that the other wrote ([`fetches_are_runs`]).
 //!
-//! - **A fetch that succeeds is a run of a world** (`FetchesAreRuns`, specs/Joined.antt). The world
-//!   (`gworld`) is made of the same server and the same client repository. The events are `Begin`,
-//!   then `Ask`, `Serve` and `Deliver` for each request, and at the end `Settle`. No event fails,
-//!   and each reply arrives complete. The last world has the repository that the fetch left. The
-//!   outcome of `Settle` counts the ref updates of the fetch.
+//! - **A fetch that succeeds is a run of a world** (`FetchesAreRuns` in `specs/Joined.antt`). The
+//!   world (`gworld`) is made of the same server and the same client repository. The events are
+//!   `Begin`, then `Ask`, `Serve` and `Deliver` for each request, and at the end `Settle`. No event
+//!   fails, and each reply arrives complete. The last world has the repository that the fetch left.
+//!   The outcome of `Settle` counts the ref updates of the fetch.
 //! - The run has the messages that were exchanged. The client wrote the requests of the run and a
 //!   lone flush packet. It read the advertisement and the replies of the run, and nothing more.
 //! - **Any fetch left the repository that a run left**, whatever its result (`AnyFetchIsARun`). The
