@@ -46,22 +46,31 @@ pub(crate) fn command_arguments(
     command: Invocation<'_>,
 ) -> Result<Vec<String>, Trouble> {
     let mut arguments = Vec::new(alloc);
-    push_arguments(alloc, fixed_arguments(command), &mut arguments)?;
-    add_location(alloc, command, &mut arguments)?;
-    add_options(alloc, command, &mut arguments)?;
+    add_command(alloc, command, &mut arguments)?;
+    Ok(arguments)
+}
+
+fn add_command(
+    alloc: Global,
+    command: Invocation<'_>,
+    arguments: &mut Vec<String>,
+) -> Result<(), Trouble> {
+    push_arguments(alloc, fixed_arguments(command), arguments)?;
+    add_location(alloc, command, arguments)?;
+    add_options(alloc, command, arguments)?;
     if command.program != Program::Lines && command.program != Program::LsClient {
-        add_argument(
-            alloc,
-            file_name_for(command.repository_name),
-            &mut arguments,
-        )?;
+        add_argument(alloc, file_name_for(command.repository_name), arguments)?;
     }
-    if !command.operands.is_empty() {
-        for argument in split_words(alloc, command.operands)? {
+    add_operands(alloc, command.operands, arguments)
+}
+
+fn add_operands(alloc: Global, operands: &str, arguments: &mut Vec<String>) -> Result<(), Trouble> {
+    if !operands.is_empty() {
+        for argument in split_words(alloc, operands)? {
             arguments.push(argument)?;
         }
     }
-    Ok(arguments)
+    Ok(())
 }
 
 // Returns the part of the command line before the options.
@@ -115,8 +124,8 @@ fn add_options(
 }
 
 fn add_argument(alloc: Global, argument: &str, arguments: &mut Vec<String>) -> Result<(), Trouble> {
-    arguments.push(String::from_str(alloc, argument)?)?;
-    Ok(())
+    let argument = String::from_str(alloc, argument)?;
+    arguments.push(argument).map_err(Trouble::from)
 }
 
 /// Appends arguments that are separated by spaces; `""` is the empty argument.

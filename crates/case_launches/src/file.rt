@@ -2,6 +2,7 @@
 //! forwards all calls to a real file.
 
 use crate::journal::Journal;
+use std::alloc::Global;
 use std::fs::{Metadata, OpenFile, Permissions};
 use std::io;
 use std::io::{Read, Seek, SeekFrom, Write};
@@ -12,9 +13,26 @@ const MAX_WRITE_LEN: usize = 16;
 /// A real file, with the path under which it was opened.
 #[derive(Drop)]
 pub(crate) struct RecordedFile<'a, F> {
-    pub(crate) file: F,
-    pub(crate) name: String,
-    pub(crate) journal: &'a Journal<'a>,
+    file: F,
+    name: String,
+    journal: &'a Journal<'a>,
+}
+
+impl<'a, F: Drop> RecordedFile<'a, F> {
+    /// Returns a file that was opened under this path, and that records its calls in the journal.
+    pub(crate) fn new(
+        alloc: Global,
+        file: F,
+        path: &str,
+        journal: &'a Journal<'a>,
+    ) -> io::Result<RecordedFile<'a, F>> {
+        let name = String::from_str(alloc, path)?;
+        Ok(RecordedFile {
+            file,
+            name,
+            journal,
+        })
+    }
 }
 
 impl<F: Read> Read for RecordedFile<'_, F> {

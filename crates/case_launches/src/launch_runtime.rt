@@ -5,14 +5,16 @@ use crate::file::RecordedFile;
 use crate::journal::Journal;
 use crate::peers::Peers;
 use crate::plan::Plan;
-use crate::system::System;
 use std::alloc::{AllocError, Allocator, Global};
 use std::cell::RefCell;
 use std::env::FillError;
 use std::fmt::Display;
 use std::fs::{Metadata, OpenOptions, Permissions};
 use std::io;
-use std::io::{BufRead, ErrorKind, Lines, Write};
+use std::io::{BufRead, ErrorKind, Lines, PipeReader, PipeWriter, Write};
+use std::net::{Net, TcpStream};
+use std::os::fd::BorrowedFd;
+use std::os::unix;
 use std::path::PathBuf;
 use std::rt::{Clock, Env, Files};
 use std::time::Duration;
@@ -21,34 +23,40 @@ use std::time::Duration;
 #[derive(Drop)]
 pub(crate) struct LaunchRuntime<'a, R> {
     pub(crate) rt: &'a R,
-    plan: &'a Plan<'a>,
+    pub(crate) alloc: Global,
+    arguments: &'a [String],
+    // The bytes of standard input.
+    input: &'a [u8],
     pub(crate) journal: &'a Journal<'a>,
     pub(crate) peers: &'a Peers<'a>,
     output: RefCell<Vec<u8>>,
 }
 
-impl<'a, R: System> LaunchRuntime<'a, R> {
+impl<'a, R> LaunchRuntime<'a, R> {
     /// Returns the runtime for a program that is launched according to this plan.
     pub(crate) fn new(
         rt: &'a R,
+        alloc: Global,
         plan: &'a Plan<'a>,
         journal: &'a Journal<'a>,
         peers: &'a Peers<'a>,
     ) -> LaunchRuntime<'a, R> {
         LaunchRuntime {
             rt,
-            plan,
+            alloc,
+            arguments: plan.arguments.as_slice(),
+            input: plan.streams.input.as_slice(),
             journal,
             peers,
-            output: RefCell::new(Vec::new(rt.alloc())),
+            output: RefCell::new(Vec::new(alloc)),
         }
     }
 
     /// Returns all bytes written to standard output.
     pub(crate) fn written_bytes(&self) -> Result<Vec<u8>, AllocError> {
         match self.output.try_borrow() {
-            Ok(output) => Vec::from_slice(self.rt.alloc(), output.as_slice()),
-            Err(_) => Ok(Vec::new(self.rt.alloc())),
+            Ok(output) => Vec::from_slice(self.alloc, output.as_slice()),
+            Err(_) => Ok(Vec::new(self.alloc)),
         }
     }
 
@@ -58,7 +66,9 @@ impl<'a, R: System> LaunchRuntime<'a, R> {
             Err(_) => Err(io::Error::from(ErrorKind::Other)),
         }
     }
+}
 
+impl<R: Net<Stream = TcpStream>> LaunchRuntime<'_, R> {
     // Connects the clients if the program's output so far is exactly the line that states its port.
     fn connect_clients_if_listening(&self) -> io::Result<()> {
         let written = self.written_bytes()?;
@@ -77,17 +87,17 @@ fn listening_port(output: &[u8]) -> Option<u16> {
     digits.parse::<u16>().ok()
 }
 
-impl<R: System> Alloc for LaunchRuntime<'_, R> {
+impl<R> Alloc for LaunchRuntime<'_, R> {
     type A = Global;
 
     fn alloc(&self) -> Global {
-        self.rt.alloc()
+        self.alloc
     }
 }
 
-impl<R: System> Env for LaunchRuntime<'_, R> {
+impl<R> Env for LaunchRuntime<'_, R> {
     fn arg(&self, i: usize, buf: &mut [u8]) -> Result<usize, FillError> {
-        let Some(argument) = self.plan.arguments.get(i) else {
+        let Some(argument) = self.arguments.get(i) else {
             return Err(FillError::NotPresent);
         };
         let bytes = argument.as_bytes();
@@ -105,34 +115,42 @@ impl<R: System> Env for LaunchRuntime<'_, R> {
     fn var_at(&self, _i: usize, _buf: &mut [u8]) -> Result<usize, FillError> {
         Err(FillError::NotPresent)
     }
+
+    fn current_dir(&self, _buf: &mut [u8]) -> io::Result<usize> {
+        Err(unsupported())
+    }
+
+    fn set_current_dir(&self, _path: &str) -> io::Result<()> {
+        Err(unsupported())
+    }
 }
 
-impl<'a, R: System> Input for LaunchRuntime<'a, R> {
+impl<'a, R> Input for LaunchRuntime<'a, R> {
     type Reader = &'a [u8];
 
     fn read_line<A: Allocator + Clone>(&self, buf: &mut String<A>) -> io::Result<usize> {
-        let mut reader = self.plan.input.as_slice();
+        let mut reader = self.input;
         reader.read_line(buf)
     }
 
     fn lines<A: Allocator>(&self, alloc: A) -> Lines<&'a [u8], A> {
-        self.plan.input.as_slice().lines(alloc)
+        self.input.lines(alloc)
     }
 
     fn reader(&self) -> &'a [u8] {
-        self.plan.input.as_slice()
+        self.input
     }
 }
 
 // Standard output.
-impl<R: System> Print for LaunchRuntime<'_, R> {
+impl<R: Net<Stream = TcpStream>> Print for LaunchRuntime<'_, R> {
     fn print<D: Display + Drop>(&self, value: D) -> io::Result<()> {
-        let text = format!(in self.rt.alloc(); "{value}")?;
+        let text = format!(in self.alloc; "{value}")?;
         self.write_all(text.as_bytes())
     }
 
     fn println<D: Display + Drop>(&self, value: D) -> io::Result<()> {
-        let text = format!(in self.rt.alloc(); "{value}\n")?;
+        let text = format!(in self.alloc; "{value}\n")?;
         self.write_all(text.as_bytes())
     }
 
@@ -144,7 +162,7 @@ impl<R: System> Print for LaunchRuntime<'_, R> {
 }
 
 // The clock always returns zero.
-impl<R: System> Clock for LaunchRuntime<'_, R> {
+impl<R> Clock for LaunchRuntime<'_, R> {
     fn monotonic(&self) -> io::Result<Duration> {
         Ok(Duration::ZERO)
     }
@@ -152,27 +170,19 @@ impl<R: System> Clock for LaunchRuntime<'_, R> {
     fn since_1970(&self) -> io::Result<Duration> {
         Ok(Duration::ZERO)
     }
+
+    fn sleep(&self, _duration: Duration) {}
 }
 
-impl<'a, R: System> Files for LaunchRuntime<'a, R> {
+impl<'a, R: Files> Files for LaunchRuntime<'a, R> {
     type File = RecordedFile<'a, R::File>;
 
     type Dir = R::Dir;
 
     fn open_file(&self, how: &OpenOptions, path: &str) -> io::Result<RecordedFile<'a, R::File>> {
-        let step = if how.asks_create_new() {
-            "create"
-        } else if how.asks_write() {
-            "open"
-        } else {
-            "read"
-        };
-        self.journal.record_file_step(step, path)?;
-        Ok(RecordedFile {
-            file: self.rt.open_file(how, path)?,
-            name: String::from_str(self.rt.alloc(), path)?,
-            journal: self.journal,
-        })
+        self.journal.record_file_step(opening_step(how), path)?;
+        let file = self.rt.open_file(how, path)?;
+        RecordedFile::new(self.alloc, file, path, self.journal)
     }
 
     fn open_dir(&self, path: &str) -> io::Result<R::Dir> {
@@ -221,6 +231,54 @@ impl<'a, R: System> Files for LaunchRuntime<'a, R> {
     fn set_permissions(&self, path: &str, perm: Permissions) -> io::Result<()> {
         self.rt.set_permissions(path, perm)
     }
+
+    fn read_link<B: Allocator>(&self, _alloc: B, _path: &str) -> io::Result<PathBuf<B>> {
+        Err(unsupported())
+    }
+
+    fn hard_link(&self, _original: &str, _link: &str) -> io::Result<()> {
+        Err(unsupported())
+    }
+
+    fn symlink(&self, _original: &str, _link: &str) -> io::Result<()> {
+        Err(unsupported())
+    }
+
+    fn pipe(&self) -> io::Result<(PipeReader, PipeWriter)> {
+        Err(unsupported())
+    }
+
+    fn chown(&self, _path: &str, _uid: Option<u32>, _gid: Option<u32>) -> io::Result<()> {
+        Err(unsupported())
+    }
+
+    fn lchown(&self, _path: &str, _uid: Option<u32>, _gid: Option<u32>) -> io::Result<()> {
+        Err(unsupported())
+    }
+
+    fn create_dir_with_mode(&self, _path: &str, _mode: u32) -> io::Result<()> {
+        Err(unsupported())
+    }
+
+    fn bind_unix(&self, _socket: BorrowedFd<'_>, _addr: &unix::net::SocketAddr) -> io::Result<()> {
+        Err(unsupported())
+    }
+}
+
+// Returns the recorded name of the operation that opens a file with these options.
+fn opening_step(how: &OpenOptions) -> &'static str {
+    if how.asks_create_new() {
+        "create"
+    } else if how.asks_write() {
+        "open"
+    } else {
+        "read"
+    }
+}
+
+/// Returns the error of a call that the program does not use.
+pub(crate) fn unsupported() -> io::Error {
+    io::Error::from(ErrorKind::Unsupported)
 }
 
 /// The standard error of a launched program.

@@ -32,6 +32,7 @@ mod launch_runtime;
 mod network;
 mod peers;
 mod plan;
+mod planned_streams;
 mod run;
 mod streams;
 mod system;

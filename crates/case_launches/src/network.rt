@@ -1,13 +1,15 @@
 //! The sockets of a launched program.
 
 use crate::journal::Journal;
-use crate::launch_runtime::LaunchRuntime;
+use crate::launch_runtime::{LaunchRuntime, unsupported};
 use crate::peers::Peers;
-use crate::system::System;
 use std::io;
 use std::io::ErrorKind;
-use std::net::{IpAddr, Ipv4Addr, Net, OpenListener, SocketAddr, TcpListener, TcpStream};
-use std::os::fd::{AsRawFd, RawFd};
+use std::net::{
+    IpAddr, Ipv4Addr, Net, OpenListener, SocketAddr, TcpListener, TcpStream, UdpSocket,
+};
+use std::os::fd::{AsRawFd, OwnedFd, RawFd};
+use std::os::unix;
 use std::time::Duration;
 
 // A host name that resolves to two addresses.
@@ -50,7 +52,10 @@ impl OpenListener for Listener<'_> {
     }
 }
 
-impl<'a, R: System> Net for LaunchRuntime<'a, R> {
+impl<'a, R> Net for LaunchRuntime<'a, R>
+where
+    R: Net<Stream = TcpStream, Listener = TcpListener>,
+{
     type Stream = TcpStream;
 
     type Listener = Listener<'a>;
@@ -73,7 +78,7 @@ impl<'a, R: System> Net for LaunchRuntime<'a, R> {
 
     fn connect_timeout(&self, addr: SocketAddr, timeout: Duration) -> io::Result<TcpStream> {
         let seconds = timeout.as_secs();
-        let step = format!(in self.rt.alloc(); "connect within {seconds}")?;
+        let step = format!(in self.alloc; "connect within {seconds}")?;
         self.journal.record(step.as_str())?;
         if addr.ip() == unused_address() {
             return Err(io::Error::from(ErrorKind::ConnectionRefused));
@@ -102,5 +107,21 @@ impl<'a, R: System> Net for LaunchRuntime<'a, R> {
             }
             [] => Ok(0),
         }
+    }
+
+    fn bind_udp(&self, _addr: SocketAddr) -> io::Result<UdpSocket> {
+        Err(unsupported())
+    }
+
+    fn connect_unix(&self, _addr: &unix::net::SocketAddr) -> io::Result<unix::net::UnixStream> {
+        Err(unsupported())
+    }
+
+    fn unix_pair(&self) -> io::Result<(unix::net::UnixStream, unix::net::UnixStream)> {
+        Err(unsupported())
+    }
+
+    fn unix_socket(&self) -> io::Result<OwnedFd> {
+        Err(unsupported())
     }
 }

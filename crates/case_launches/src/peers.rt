@@ -1,11 +1,10 @@
 //! The peers of the program's connections.
 
-use crate::system::System;
-use std::alloc::Global;
+use std::alloc::{AllocError, Global};
 use std::cell::{Cell, RefCell};
 use std::io;
 use std::io::{ErrorKind, Read, Write};
-use std::net::{Shutdown, SocketAddr, TcpListener, TcpStream};
+use std::net::{Net, Shutdown, SocketAddr, TcpListener, TcpStream};
 
 /// The bytes that a peer sends, and the bytes that the peer must receive.
 #[derive(Drop)]
@@ -20,6 +19,17 @@ impl Exchange {
             sent_bytes: Vec::new(alloc),
             expected_bytes: Vec::new(alloc),
         }
+    }
+
+    pub(crate) fn of_bytes(
+        alloc: Global,
+        sent_bytes: &[u8],
+        expected_bytes: &[u8],
+    ) -> Result<Exchange, AllocError> {
+        Ok(Exchange {
+            sent_bytes: Vec::from_slice(alloc, sent_bytes)?,
+            expected_bytes: Vec::from_slice(alloc, expected_bytes)?,
+        })
     }
 }
 
@@ -57,7 +67,11 @@ impl<'a> Peers<'a> {
     }
 
     /// Connects all clients to this port.
-    pub(crate) fn connect_clients<R: System>(&self, rt: &R, port: u16) -> io::Result<()> {
+    pub(crate) fn connect_clients<R: Net<Stream = TcpStream>>(
+        &self,
+        rt: &R,
+        port: u16,
+    ) -> io::Result<()> {
         for exchange in self.exchanges {
             let stream = TcpStream::connect(rt, ("127.0.0.1", port))?;
             self.count_waiting_connection();
@@ -69,7 +83,10 @@ impl<'a> Peers<'a> {
     /// Returns the program's stream for a connection to the address. The stream is connected to the
     /// program itself if the program listens at that address. Otherwise the stream is connected to
     /// the next simulated server.
-    pub(crate) fn connect<R: System>(&self, rt: &R, address: SocketAddr) -> io::Result<TcpStream> {
+    pub(crate) fn connect<R>(&self, rt: &R, address: SocketAddr) -> io::Result<TcpStream>
+    where
+        R: Net<Stream = TcpStream, Listener = TcpListener>,
+    {
         if address.port() == self.program_port() {
             let stream = TcpStream::connect(rt, address)?;
             self.count_waiting_connection();
@@ -112,7 +129,7 @@ impl<'a> Peers<'a> {
         stream.write_all(exchange.sent_bytes.as_slice())?;
         stream.shutdown(Shutdown::Write)?;
         match self.streams.try_borrow_mut() {
-            Ok(mut streams) => Ok(streams.push(stream)?),
+            Ok(mut streams) => streams.push(stream).map_err(io::Error::from),
             Err(_) => Err(io::Error::from(ErrorKind::Other)),
         }
     }
@@ -120,15 +137,19 @@ impl<'a> Peers<'a> {
     /// Returns whether every peer was connected and received its expected bytes. If a connection
     /// was reset, its peer may have received only a prefix of these bytes.
     pub(crate) fn have_received_expected(&self, alloc: Global) -> bool {
-        let Ok(mut streams) = self.streams.try_borrow_mut() else {
-            return false;
-        };
-        let mut is_right = streams.len() == self.exchanges.len();
-        for (stream, exchange) in streams.as_mut_slice().iter_mut().zip(self.exchanges) {
-            is_right = is_right && has_received(alloc, stream, exchange.expected_bytes.as_slice());
+        match self.streams.try_borrow_mut() {
+            Ok(mut streams) => have_received(alloc, streams.as_mut_slice(), self.exchanges),
+            Err(_) => false,
         }
-        is_right
     }
+}
+
+fn have_received(alloc: Global, streams: &mut [TcpStream], exchanges: &[Exchange]) -> bool {
+    let mut is_right = streams.len() == exchanges.len();
+    for (stream, exchange) in streams.iter_mut().zip(exchanges) {
+        is_right = is_right && has_received(alloc, stream, exchange.expected_bytes.as_slice());
+    }
+    is_right
 }
 
 fn has_received(alloc: Global, stream: &mut TcpStream, expected: &[u8]) -> bool {

@@ -1,25 +1,13 @@
 //! A plan: the arguments, files and peers of a program, and all expected results.
 
 use crate::arguments::{command_arguments, file_name_for, push_arguments};
-use crate::peers::Exchange;
-use crate::streams::{CommandStreams, Stream};
+use crate::planned_streams::PlannedStreams;
+use crate::streams::CommandStreams;
 use case_text::{
-    Case, FinalItem, InitialItem, Launch, Program, Script, Speaker, TranscriptEntry, Trouble,
-    split_first_word,
+    Case, FinalItem, InitialItem, Invocation, Launch, Program, Script, Trouble, split_first_word,
 };
 use case_tries::Row;
 use std::alloc::Global;
-
-/// The line that a listening server prints.
-const LISTENING_LINE: &[u8] = b"listening PORT\n";
-
-/// The exit status of the program if its arguments do not match the usage. The program then prints
-/// the line `USAGE_LINE`.
-pub(crate) const WRONG_USAGE_STATUS: u8 = 2;
-
-const NO_BYTES: &[u8] = b"";
-
-const USAGE_LINE: &[u8] = b"gitv2: usage\n";
 
 /// The arguments, files and peers of a program, and all expected results.
 #[derive(Drop)]
@@ -29,34 +17,26 @@ pub struct Plan<'b> {
     pub(crate) arguments: Vec<String>,
     pub(crate) initial_items: Vec<InitialItem<'b>>,
     pub(crate) final_items: Vec<FinalItem<'b>>,
-    /// The bytes of standard input.
-    pub(crate) input: Vec<u8>,
-    pub(crate) exchanges: Vec<Exchange>,
-    /// The expected standard output. The word `PORT` is replaced by the port at which the program
-    /// listens.
-    pub(crate) output: Vec<u8>,
-    /// The expected standard error, if it is known.
-    pub(crate) errors: Option<Vec<u8>>,
-    /// The expected exit status. `None` accepts any status except `WRONG_USAGE_STATUS`.
-    pub(crate) status: Option<u8>,
+    pub(crate) streams: PlannedStreams,
     pub(crate) steps: Option<&'b str>,
     /// The operation that fails whenever the program performs it, if any.
     pub(crate) failing_step: Option<&'b str>,
 }
 
 impl<'b> Plan<'b> {
-    // Returns a plan with these arguments, an empty folder and no expected results.
-    fn new(alloc: Global, script: &'b Script<'b>, arguments: Vec<String>) -> Plan<'b> {
+    // Returns a plan with these arguments, streams and exit status, and an empty folder.
+    fn new(
+        alloc: Global,
+        script: &'b Script<'b>,
+        arguments: Vec<String>,
+        streams: PlannedStreams,
+    ) -> Plan<'b> {
         Plan {
             script,
             arguments,
             initial_items: Vec::new(alloc),
             final_items: Vec::new(alloc),
-            input: Vec::new(alloc),
-            exchanges: Vec::new(alloc),
-            output: Vec::new(alloc),
-            errors: None,
-            status: None,
+            streams,
             steps: None,
             failing_step: None,
         }
@@ -70,12 +50,10 @@ impl<'b> Plan<'b> {
         arguments: Vec<String>,
         is_valid_usage: bool,
     ) -> Result<Plan<'b>, Trouble> {
-        let mut plan = Plan::new(alloc, script, arguments);
-        if !is_valid_usage {
-            plan.errors = Some(Vec::from_slice(alloc, USAGE_LINE)?);
-            plan.status = Some(WRONG_USAGE_STATUS);
+        match PlannedStreams::of_usage(alloc, is_valid_usage) {
+            Ok(streams) => Ok(Plan::new(alloc, script, arguments, streams)),
+            Err(trouble) => Err(trouble),
         }
-        Ok(plan)
     }
 
     /// Returns the plan for the command of a row, with a file that holds the row's repository.
@@ -85,82 +63,52 @@ impl<'b> Plan<'b> {
         case: &'b Case<'b>,
         row: &Row<'b>,
     ) -> Result<Plan<'b>, Trouble> {
-        let command = row.command;
-        let mut plan = Plan::new(alloc, script, command_arguments(alloc, command)?);
+        let arguments = command_arguments(alloc, row.command)?;
+        let streams = PlannedStreams::of_row(alloc, row)?;
+        let mut plan = Plan::new(alloc, script, arguments, streams);
+        plan.add_files_of(row.command, case.new_file)?;
+        Ok(plan)
+    }
+
+    // Adds the files that a command reads, and the file that the command writes, if any.
+    fn add_files_of(
+        &mut self,
+        command: Invocation<'b>,
+        new_file: Option<&'b str>,
+    ) -> Result<(), Trouble> {
         if command.program != Program::Lines && command.program != Program::LsClient {
-            plan.add_file(command.repository_name)?;
+            self.add_file(command.repository_name)?;
         }
         if command.program == Program::Simulate {
             let (client, scenario) = split_first_word(command.operands);
-            plan.add_file(client)?;
-            plan.add_file(scenario)?;
+            self.add_file(client)?;
+            self.add_file(scenario)?;
         }
         if command.program == Program::Fetch {
-            plan.expect_file(command.repository_name, case.new_file)?;
+            self.expect_file(command.repository_name, new_file)?;
         }
-        plan.expect_conversation(alloc, row)?;
-        Ok(plan)
+        Ok(())
     }
 
     // Adds a file that has the name and the contents of a named text.
     fn add_file(&mut self, text_name: &'b str) -> Result<(), Trouble> {
         let name = file_name_for(text_name);
-        self.initial_items.push(InitialItem::File {
+        let item = InitialItem::File {
             name,
             text: text_name,
-        })?;
-        Ok(())
+        };
+        self.initial_items.push(item).map_err(Trouble::from)
     }
 
     // If `text` is a name, expects the file to hold the text with that name after the launch.
     fn expect_file(&mut self, file: &'b str, text: Option<&'b str>) -> Result<(), Trouble> {
-        if let Some(text) = text {
-            let name = file_name_for(file);
-            self.final_items.push(FinalItem::File { name, text })?;
-        }
-        Ok(())
-    }
-
-    // Adds the messages of a row to the plan, over standard streams or over a socket.
-    fn expect_conversation(&mut self, alloc: Global, row: &Row<'_>) -> Result<(), Trouble> {
-        let conversation = &row.conversation;
-        let is_remote = row.command.has_hello();
-        let mut errors = Vec::new(alloc);
-        let report = if row.command.program.has_report() {
-            conversation.report.as_slice()
-        } else {
-            NO_BYTES
+        let Some(text) = text else {
+            return Ok(());
         };
-        if is_remote {
-            self.expect_exchange(alloc, row)?;
-            self.output.extend_from_slice(report)?;
-        } else {
-            self.input.extend_from_slice(conversation.input.as_slice())?;
-            self.output
-                .extend_from_slice(conversation.output.as_slice())?;
-            errors.extend_from_slice(report)?;
-        }
-        errors.extend_from_slice(conversation.errors.as_slice())?;
-        self.errors = Some(errors);
-        self.status = Some(u8::from(!conversation.errors.is_empty()));
-        if row.command.program == Program::Serve {
-            self.output.extend_from_slice(LISTENING_LINE)?;
-            self.status = Some(0);
-        }
-        Ok(())
-    }
-
-    // Adds the messages of a row to the plan, over a socket. A client that sends no message opens
-    // no socket.
-    fn expect_exchange(&mut self, alloc: Global, row: &Row<'_>) -> Result<(), Trouble> {
-        let conversation = &row.conversation;
-        if row.command.program == Program::Serve || !conversation.output.is_empty() {
-            self.exchanges.push(Exchange {
-                sent_bytes: Vec::from_slice(alloc, conversation.input.as_slice())?,
-                expected_bytes: Vec::from_slice(alloc, conversation.output.as_slice())?,
-            })?;
-        }
-        Ok(())
+        let name = file_name_for(file);
+        self.final_items
+            .push(FinalItem::File { name, text })
+            .map_err(Trouble::from)
     }
 
     /// Returns a plan for a server and a client in one process. `arguments` holds the names of both
@@ -171,20 +119,24 @@ impl<'b> Plan<'b> {
         case: &Case<'_>,
         arguments: &'b str,
     ) -> Result<Plan<'b>, Trouble> {
-        let (server, rest) = split_first_word(arguments);
-        let (client, _) = split_first_word(rest);
-        let mut plan = Plan::new(alloc, script, Vec::new(alloc));
-        plan.add_arguments(alloc, "gitv2 pair")?;
-        plan.add_arguments(alloc, arguments)?;
-        plan.add_file(server)?;
-        plan.add_file(client)?;
-        plan.expect_transcript(
+        let streams = PlannedStreams::of_transcript(
             alloc,
             case.transcript.as_slice(),
             &[],
             CommandStreams::of_command("pair"),
         )?;
+        let words = program_arguments(alloc, "gitv2 pair", arguments)?;
+        let mut plan = Plan::new(alloc, script, words, streams);
+        plan.add_pair(arguments)?;
         Ok(plan)
+    }
+
+    // Adds the files of both repositories that the arguments name.
+    fn add_pair(&mut self, arguments: &'b str) -> Result<(), Trouble> {
+        let (server, rest) = split_first_word(arguments);
+        let (client, _) = split_first_word(rest);
+        self.add_file(server)?;
+        self.add_file(client)
     }
 
     /// Returns the plan for a launch that a case describes.
@@ -194,84 +146,35 @@ impl<'b> Plan<'b> {
         case: &Case<'_>,
         launch: &Launch<'b>,
     ) -> Result<Plan<'b>, Trouble> {
-        let mut plan = Plan::new(alloc, script, Vec::new(alloc));
-        plan.add_arguments(alloc, "gitv2")?;
-        plan.add_arguments(alloc, launch.arguments)?;
-        plan.initial_items
-            .extend_from_slice(launch.initial_items.as_slice())?;
-        plan.final_items
-            .extend_from_slice(launch.final_items.as_slice())?;
-        plan.steps = launch.steps;
-        plan.failing_step = launch.failing_step;
-        let streams = CommandStreams::of_command(launch.arguments);
-        plan.expect_transcript(
+        let mut streams = PlannedStreams::of_transcript(
             alloc,
             case.transcript.as_slice(),
             launch.connection_starts.as_slice(),
-            streams,
+            CommandStreams::of_command(launch.arguments),
         )?;
-        if launch.status.is_some() {
-            plan.status = launch.status;
-        }
+        streams.override_status(launch.status);
+        let arguments = program_arguments(alloc, "gitv2", launch.arguments)?;
+        let mut plan = Plan::new(alloc, script, arguments, streams);
+        plan.add_launch(launch)?;
         Ok(plan)
     }
 
-    fn add_arguments(&mut self, alloc: Global, text: &str) -> Result<(), Trouble> {
-        push_arguments(alloc, text, &mut self.arguments)
-    }
-
-    // Adds messages to the plan, over standard streams or over one connection after another.
-    fn expect_transcript(
-        &mut self,
-        alloc: Global,
-        transcript: &[TranscriptEntry],
-        connection_starts: &[usize],
-        streams: CommandStreams,
-    ) -> Result<(), Trouble> {
-        let mut errors = Vec::new(alloc);
-        for (index, entry) in transcript.iter().enumerate() {
-            let starts_connection = connection_starts.contains(&index);
-            if streams.is_remote
-                && entry.speaker.is_peer()
-                && (starts_connection || self.exchanges.is_empty())
-            {
-                self.exchanges.push(Exchange::new(alloc))?;
-            }
-            let stream = streams.stream_of(entry.speaker);
-            self.expect_bytes(entry.bytes.as_slice(), stream, &mut errors)?;
-        }
-        self.status = Some(u8::from(has_fault(transcript)));
-        self.errors = Some(errors);
-        Ok(())
-    }
-
-    // Adds bytes to the input or to the expected output of this stream.
-    fn expect_bytes(
-        &mut self,
-        bytes: &[u8],
-        stream: Stream,
-        errors: &mut Vec<u8>,
-    ) -> Result<(), Trouble> {
-        match (stream, self.exchanges.last_mut()) {
-            (Stream::PeerInput, Some(exchange)) => exchange.sent_bytes.extend_from_slice(bytes)?,
-            (Stream::PeerOutput, Some(exchange)) => exchange
-                .expected_bytes
-                .extend_from_slice(bytes)?,
-            (Stream::PeerInput, None) => self.input.extend_from_slice(bytes)?,
-            (Stream::PeerOutput, None) => self.output.extend_from_slice(bytes)?,
-            (Stream::StandardOutput, _) => self.output.extend_from_slice(bytes)?,
-            (Stream::StandardError, _) => errors.extend_from_slice(bytes)?,
-        }
-        Ok(())
+    // Adds the files of a launch and its expected operations.
+    fn add_launch(&mut self, launch: &Launch<'b>) -> Result<(), Trouble> {
+        self.steps = launch.steps;
+        self.failing_step = launch.failing_step;
+        self.initial_items
+            .extend_from_slice(launch.initial_items.as_slice())?;
+        self.final_items
+            .extend_from_slice(launch.final_items.as_slice())
+            .map_err(Trouble::from)
     }
 }
 
-// Returns whether the messages include a printed fault.
-fn has_fault(transcript: &[TranscriptEntry]) -> bool {
-    for entry in transcript {
-        if entry.speaker == Speaker::Errors {
-            return true;
-        }
-    }
-    false
+// Returns the arguments of both texts, which are separated by spaces.
+fn program_arguments(alloc: Global, first: &str, others: &str) -> Result<Vec<String>, Trouble> {
+    let mut arguments = Vec::new(alloc);
+    push_arguments(alloc, first, &mut arguments)?;
+    push_arguments(alloc, others, &mut arguments)?;
+    Ok(arguments)
 }

@@ -115,13 +115,15 @@ fn add_braced(
     }
     if let Some(name) = inside.strip_prefix('@') {
         let object = names.find_object(name)?;
-        return Ok(bytes.extend_from_slice(object.id.as_bytes())?);
+        return bytes
+            .extend_from_slice(object.id.as_bytes())
+            .map_err(Trouble::from);
     }
     match names.find_text(inside) {
-        Ok(text) => Ok(bytes.extend_from_slice(text)?),
+        Ok(text) => bytes.extend_from_slice(text).map_err(Trouble::from),
         Err(_) => {
             let object = names.find_object(inside)?;
-            Ok(object.id.push_hex(bytes)?)
+            object.id.push_hex(bytes).map_err(Trouble::from)
         }
     }
 }

@@ -35,8 +35,9 @@ impl<'a> PackIndex<'a> {
     }
 
     pub(crate) fn push(&mut self, id: Oid, crc: u32, offset: u64) -> Result<(), Trouble> {
-        self.entries.push(IndexEntry { id, crc, offset })?;
-        Ok(())
+        self.entries
+            .push(IndexEntry { id, crc, offset })
+            .map_err(Trouble::from)
     }
 
     /// Makes `bytes` write the entries in the order of addition, instead of sorting them by id.
@@ -45,26 +46,42 @@ impl<'a> PackIndex<'a> {
     }
 
     pub(crate) fn bytes(&self, alloc: Global, pack: &Pack<'_>) -> Result<Vec<u8>, Trouble> {
+        let entries = self.ordered_entries(alloc)?;
+        let mut text = Vec::new(alloc);
+        put_tables(&mut text, entries.as_slice())?;
+        let pack = pack.bytes(alloc)?;
+        put_trailer(&mut text, pack.as_slice())?;
+        Ok(text)
+    }
+
+    // Returns the entries in the order in which the index lists them.
+    fn ordered_entries(&self, alloc: Global) -> Result<Vec<IndexEntry>, Trouble> {
         let mut entries = self.entries.as_slice().to_vec(alloc)?;
         if !self.is_unsorted {
             entries.sort_unstable_by(|first_entry, second_entry| first_entry
                 .id
                 .cmp(&second_entry.id));
         }
-        let mut text = Vec::new(alloc);
-        text.extend_from_slice(b"\xfftOc\0\0\0\x02")?;
-        put_fan_out(&mut text, entries.as_slice())?;
-        put_ids(&mut text, entries.as_slice())?;
-        put_crcs(&mut text, entries.as_slice())?;
-        put_offsets(&mut text, entries.as_slice())?;
-        put_long_offsets(&mut text, entries.as_slice())?;
-        let pack = pack.bytes(alloc)?;
-        let end = pack.len().saturating_sub(TRAILER);
-        text.extend_from_slice(pack.as_slice().get(end..).unwrap_or(b""))?;
-        let checksum = Sha1::digest(text.as_slice());
-        text.extend_from_slice(&checksum)?;
-        Ok(text)
+        Ok(entries)
     }
+}
+
+// Appends the header and the tables of an index.
+fn put_tables(text: &mut Vec<u8>, entries: &[IndexEntry]) -> Result<(), Trouble> {
+    text.extend_from_slice(b"\xfftOc\0\0\0\x02")?;
+    put_fan_out(text, entries)?;
+    put_ids(text, entries)?;
+    put_crcs(text, entries)?;
+    put_offsets(text, entries)?;
+    put_long_offsets(text, entries)
+}
+
+// Appends the trailer of the pack, and the checksum of the index.
+fn put_trailer(text: &mut Vec<u8>, pack: &[u8]) -> Result<(), Trouble> {
+    let end = pack.len().saturating_sub(TRAILER);
+    text.extend_from_slice(pack.get(end..).unwrap_or(b""))?;
+    let checksum = Sha1::digest(text.as_slice());
+    text.extend_from_slice(&checksum).map_err(Trouble::from)
 }
 
 // Appends the fan-out table: for each byte value, the number of ids whose first byte is at most

@@ -38,14 +38,15 @@ impl<'a> Names<'a> {
     }
 
     pub(crate) fn add_text(&mut self, name: &'a str, bytes: Vec<u8>) -> Result<(), Trouble> {
-        self.texts.push(NamedText { name, bytes })?;
-        Ok(())
+        self.texts
+            .push(NamedText { name, bytes })
+            .map_err(Trouble::from)
     }
 
     /// Appends bytes to the most recently added text.
     pub(crate) fn add_to_text(&mut self, bytes: &[u8]) -> Result<(), Trouble> {
         match self.texts.last_mut() {
-            Some(text) => Ok(text.bytes.extend_from_slice(bytes)?),
+            Some(text) => text.bytes.extend_from_slice(bytes).map_err(Trouble::from),
             None => Err(Trouble::NoCurrentItem),
         }
     }
@@ -57,13 +58,13 @@ impl<'a> Names<'a> {
         body: Vec<u8>,
     ) -> Result<(), Trouble> {
         let id = id_of(kind, body.as_slice());
-        self.objects.push(NamedObject {
+        let object = NamedObject {
             name,
             kind,
             body,
             id,
-        })?;
-        Ok(())
+        };
+        self.objects.push(object).map_err(Trouble::from)
     }
 
     /// Returns the bytes of the text with this name.

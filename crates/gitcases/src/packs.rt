@@ -61,7 +61,9 @@ impl<'a> Pack<'a> {
 
     /// Appends raw bytes to the entries.
     pub(crate) fn put_bytes(&mut self, bytes: &[u8]) -> Result<(), Trouble> {
-        Ok(self.entry_bytes.extend_from_slice(bytes)?)
+        self.entry_bytes
+            .extend_from_slice(bytes)
+            .map_err(Trouble::from)
     }
 
     /// Begins an entry with a type and a size.
@@ -79,8 +81,7 @@ impl<'a> Pack<'a> {
             byte = low_bits(rest);
             rest >>= 7;
         }
-        self.entry_bytes.push(byte)?;
-        Ok(())
+        self.entry_bytes.push(byte).map_err(Trouble::from)
     }
 
     /// Appends a zlib stream that inflates to the bytes.
@@ -89,7 +90,9 @@ impl<'a> Pack<'a> {
         deflater: &mut Deflater<Global>,
         bytes: &[u8],
     ) -> Result<(), Trouble> {
-        Ok(deflater.deflate(bytes, &mut self.entry_bytes)?)
+        deflater
+            .deflate(bytes, &mut self.entry_bytes)
+            .map_err(Trouble::from)
     }
 
     /// Appends an entry that holds a whole object, not a delta.
@@ -111,7 +114,7 @@ impl<'a> Pack<'a> {
     ) -> Result<(), Trouble> {
         self.begin_entry(OFFSET_DELTA, delta.len())?;
         self.put_distance(distance)?;
-        Ok(put_stored(&mut self.entry_bytes, delta)?)
+        put_stored(&mut self.entry_bytes, delta).map_err(Trouble::from)
     }
 
     /// Returns the distance in bytes between the next entry and the entry that is `back` entries
@@ -151,27 +154,39 @@ impl<'a> Pack<'a> {
     ) -> Result<(), Trouble> {
         self.begin_entry(REF_DELTA, delta.len())?;
         self.put_bytes(base.id.as_bytes())?;
-        Ok(put_stored(&mut self.entry_bytes, delta)?)
+        put_stored(&mut self.entry_bytes, delta).map_err(Trouble::from)
     }
 
     pub(crate) fn bytes(&self, alloc: Global) -> Result<Vec<u8>, Trouble> {
         let mut bytes = Vec::new(alloc);
+        self.put_header(&mut bytes)?;
+        bytes.extend_from_slice(self.entry_bytes.as_slice())?;
+        self.put_trailer(&mut bytes)?;
+        Ok(bytes)
+    }
+
+    fn put_header(&self, bytes: &mut Vec<u8>) -> Result<(), Trouble> {
         match &self.magic {
             Some(magic) => bytes.extend_from_slice(magic.as_slice())?,
             None => bytes.extend_from_slice(b"PACK\0\0\0\x02")?,
         }
         let count = self.count.unwrap_or(self.entry_offsets.len());
         let [byte_0, byte_1, byte_2, byte_3, ..] = count.to_le_bytes();
-        bytes.extend_from_slice(&[byte_3, byte_2, byte_1, byte_0])?;
-        bytes.extend_from_slice(self.entry_bytes.as_slice())?;
-        match &self.trailer {
-            Some(trailer) => bytes.extend_from_slice(trailer.as_slice())?,
+        bytes
+            .extend_from_slice(&[byte_3, byte_2, byte_1, byte_0])
+            .map_err(Trouble::from)
+    }
+
+    // Appends the trailer. The correct trailer is the checksum of the bytes before it.
+    fn put_trailer(&self, bytes: &mut Vec<u8>) -> Result<(), Trouble> {
+        let appended = match &self.trailer {
+            Some(trailer) => bytes.extend_from_slice(trailer.as_slice()),
             None => {
                 let checksum = Sha1::digest(bytes.as_slice());
-                bytes.extend_from_slice(&checksum)?;
+                bytes.extend_from_slice(&checksum)
             }
-        }
-        Ok(bytes)
+        };
+        appended.map_err(Trouble::from)
     }
 
     /// Returns the offset and the CRC-32 of the entry with this number, counted from 1.
@@ -207,5 +222,5 @@ pub(crate) fn correct_trailer(pack: &mut Vec<u8>) -> Result<(), Trouble> {
     let end = pack.len().saturating_sub(TRAILER);
     pack.truncate(end);
     let checksum = Sha1::digest(pack.as_slice());
-    Ok(pack.extend_from_slice(&checksum)?)
+    pack.extend_from_slice(&checksum).map_err(Trouble::from)
 }

@@ -53,12 +53,20 @@ pub(crate) fn reading_refs_result<R: Files + AllocGlobal, A: Allocator + Copy>(
     files: &[File],
 ) -> Result<String, Trouble> {
     make_folder(rt, files)?;
-    let actual_result = match read_refs(tested_alloc, rt, GIT_DIR) {
-        Ok(refs) => format_ref_names(rt, &refs)?,
-        Err(fault) => format!(in rt.alloc(); "{fault}")?,
-    };
+    let actual_result = read_and_describe(rt, tested_alloc)?;
     remove_folder(rt)?;
     Ok(actual_result)
+}
+
+// Reads the refs in the folder, and returns the result.
+fn read_and_describe<R: Files + AllocGlobal, A: Allocator + Copy>(
+    rt: &R,
+    tested_alloc: A,
+) -> Result<String, Trouble> {
+    match read_refs(tested_alloc, rt, GIT_DIR) {
+        Ok(refs) => format_ref_names(rt.alloc(), &refs),
+        Err(fault) => format!(in rt.alloc(); "{fault}").map_err(Trouble::from),
+    }
 }
 
 // Returns all refs below `refs/`.
@@ -74,11 +82,8 @@ fn read_refs<'r, R: Files, A: Allocator + Copy>(
 }
 
 // Returns `ok` and the names of the refs.
-fn format_ref_names<R: AllocGlobal, A: Allocator + Copy>(
-    rt: &R,
-    refs: &Refs<A>,
-) -> Result<String, Trouble> {
-    let mut text = String::from_str(rt.alloc(), SUCCESS)?;
+fn format_ref_names<A: Allocator + Copy>(alloc: Global, refs: &Refs<A>) -> Result<String, Trouble> {
+    let mut text = String::from_str(alloc, SUCCESS)?;
     for reference in refs.as_slice() {
         text.push_str(" ")?;
         text.push_str(str::from_utf8(reference.0.as_bytes()).unwrap_or("?"))?;
@@ -95,35 +100,55 @@ pub(crate) fn ref_update_result<R: Files + AllocGlobal, A: Allocator + Copy>(
 ) -> Result<String, Trouble> {
     make_folder(rt, inputs.files)?;
     let updates = inputs.row.updates.as_slice();
-    let before = read_all_refs(rt)?;
+    let result = update_and_describe(rt, tested_alloc, updates)?;
+    remove_folder(rt)?;
+    Ok(result)
+}
+
+// Updates the refs in the folder, and returns the result.
+fn update_and_describe<R: Files + AllocGlobal, A: Allocator + Copy>(
+    rt: &R,
+    tested_alloc: A,
+    updates: &[Update],
+) -> Result<String, Trouble> {
+    let before = read_all_refs(rt);
     let outcome = update_row_refs(rt, tested_alloc, updates);
-    let after = read_all_refs(rt)?;
+    let after = read_all_refs(rt);
     let is_right = match &outcome {
         Ok(()) => has_new_ids(&after, updates),
         Err(_) => are_equal(&before, &after),
     };
-    let is_locked = has_lock(rt, updates)?;
-    remove_folder(rt)?;
-    let text = match outcome {
-        _ if is_locked => "a lock is left",
-        _ if !is_right => "refs are at other ids",
-        Ok(()) => SUCCESS,
-        Err(rejection) => return format_rejection(rt, &rejection),
-    };
-    Ok(String::from_str(rt.alloc(), text)?)
+    if has_lock(rt, updates)? {
+        return String::from_str(rt.alloc(), "a lock is left").map_err(Trouble::from);
+    }
+    format_outcome(rt.alloc(), &outcome, is_right)
 }
 
-fn format_rejection<R: AllocGlobal, A: Allocator + Copy>(
-    rt: &R,
+// Returns `ok` or the fault, if the refs are right after this outcome.
+fn format_outcome<A: Allocator + Copy>(
+    alloc: Global,
+    outcome: &Result<(), Rejection<A>>,
+    is_right: bool,
+) -> Result<String, Trouble> {
+    let text = match outcome {
+        _ if !is_right => "refs are at other ids",
+        Ok(()) => SUCCESS,
+        Err(rejection) => return format_rejection(alloc, rejection),
+    };
+    String::from_str(alloc, text).map_err(Trouble::from)
+}
+
+fn format_rejection<A: Allocator + Copy>(
+    alloc: Global,
     rejection: &Rejection<A>,
 ) -> Result<String, Trouble> {
-    let alloc = rt.alloc();
-    match rejection {
-        Rejection::Memory => Ok(String::from_str(alloc, OUT_OF_MEMORY)?),
-        Rejection::Name(fault) => Ok(format!(in alloc; "{fault}")?),
-        Rejection::Refs(fault) => Ok(format!(in alloc; "{fault}")?),
-        Rejection::Repository(fault) => Ok(format!(in alloc; "{fault}")?),
-    }
+    let text = match rejection {
+        Rejection::Memory => String::from_str(alloc, OUT_OF_MEMORY),
+        Rejection::Name(fault) => format!(in alloc; "{fault}"),
+        Rejection::Refs(fault) => format!(in alloc; "{fault}"),
+        Rejection::Repository(fault) => format!(in alloc; "{fault}"),
+    };
+    text.map_err(Trouble::from)
 }
 
 fn update_row_refs<R: Files, A: Allocator + Copy>(
@@ -132,6 +157,18 @@ fn update_row_refs<R: Files, A: Allocator + Copy>(
     updates: &[Update],
 ) -> Result<(), Rejection<A>> {
     let mut ref_updates = Vec::new(tested_alloc);
+    add_ref_updates(tested_alloc, updates, &mut ref_updates)?;
+    match update_refs(tested_alloc, rt, GIT_DIR, ref_updates.as_slice()) {
+        Ok(()) => Ok(()),
+        Err(fault) => Err(Rejection::Refs(fault)),
+    }
+}
+
+fn add_ref_updates<A: Allocator + Copy>(
+    tested_alloc: A,
+    updates: &[Update],
+    ref_updates: &mut Vec<RefUpdate<A>, A>,
+) -> Result<(), Rejection<A>> {
     for update in updates {
         ref_updates.push(RefUpdate {
             name: ref_name_of(tested_alloc, update)?,
@@ -139,10 +176,7 @@ fn update_row_refs<R: Files, A: Allocator + Copy>(
             new: update.new,
         })?;
     }
-    match update_refs(tested_alloc, rt, GIT_DIR, ref_updates.as_slice()) {
-        Ok(()) => Ok(()),
-        Err(fault) => Err(Rejection::Refs(fault)),
-    }
+    Ok(())
 }
 
 fn update_refs<'r, R: Files, A: Allocator + Copy>(
@@ -165,10 +199,10 @@ fn ref_name_of<A: Allocator + Copy>(
 }
 
 // Returns all refs, or an empty list if the refs can't be read.
-fn read_all_refs<R: Files + AllocGlobal>(rt: &R) -> Result<Refs, Trouble> {
+fn read_all_refs<R: Files + AllocGlobal>(rt: &R) -> Refs {
     match read_refs(rt.alloc(), rt, GIT_DIR) {
-        Ok(refs) => Ok(refs),
-        Err(_) => Ok(Refs::new(rt.alloc())),
+        Ok(refs) => refs,
+        Err(_) => Refs::new(rt.alloc()),
     }
 }
 
@@ -210,27 +244,29 @@ pub(crate) fn clone_result<R: Files + AllocGlobal>(
     row: &Row<'_>,
 ) -> Result<String, Trouble> {
     make_folder(rt, &[])?;
-    let outcome = clone_refs(rt, row.updates.as_slice());
-    let is_clone_left = rt.symlink_metadata(GIT_DIR).is_ok();
-    let is_right = has_new_ids(&read_all_refs(rt)?, row.updates.as_slice());
+    let result = clone_and_describe(rt, row.updates.as_slice())?;
     remove_folder(rt)?;
-    let text = match outcome {
-        Ok(()) if is_right => SUCCESS,
-        Ok(()) => "refs are at other ids",
-        Err(_) if is_clone_left => "a refused clone is left",
-        Err(rejection) => return format_rejection(rt, &rejection),
-    };
-    Ok(String::from_str(rt.alloc(), text)?)
+    Ok(result)
+}
+
+// Clones into the folder, and returns the result.
+fn clone_and_describe<R: Files + AllocGlobal>(
+    rt: &R,
+    updates: &[Update],
+) -> Result<String, Trouble> {
+    let alloc = rt.alloc();
+    let outcome = clone_refs(rt, updates);
+    if outcome.is_err() && rt.symlink_metadata(GIT_DIR).is_ok() {
+        return String::from_str(alloc, "a refused clone is left").map_err(Trouble::from);
+    }
+    let is_right = outcome.is_err() || has_new_ids(&read_all_refs(rt), updates);
+    format_outcome(alloc, &outcome, is_right)
 }
 
 fn clone_refs<R: Files + AllocGlobal>(rt: &R, updates: &[Update]) -> Result<(), Rejection<Global>> {
     let alloc = rt.alloc();
     let mut refs = Refs::new(alloc);
-    for update in updates {
-        if refs.set(ref_name_of(alloc, update)?, update.new).is_err() {
-            return Err(Rejection::Memory);
-        }
-    }
+    set_refs(alloc, updates, &mut refs)?;
     let Some(head_target) = head_target(alloc)? else {
         return Err(Rejection::Memory);
     };
@@ -238,6 +274,15 @@ fn clone_refs<R: Files + AllocGlobal>(rt: &R, updates: &[Update]) -> Result<(), 
         Ok(new) => write_refs(alloc, new, &refs),
         Err(fault) => Err(Rejection::Repository(fault)),
     }
+}
+
+fn set_refs(alloc: Global, updates: &[Update], refs: &mut Refs) -> Result<(), Rejection<Global>> {
+    for update in updates {
+        if refs.set(ref_name_of(alloc, update)?, update.new).is_err() {
+            return Err(Rejection::Memory);
+        }
+    }
+    Ok(())
 }
 
 fn head_target(alloc: Global) -> Result<Option<Target<Global>>, Rejection<Global>> {

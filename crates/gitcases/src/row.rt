@@ -32,6 +32,24 @@ pub(crate) enum TestedCall {
     ParseServedPath,
 }
 
+impl TestedCall {
+    // Returns the call that a line with this first word tests, unless the line names an object.
+    fn named(keyword: &str) -> Option<TestedCall> {
+        Some(match keyword {
+            "index" => TestedCall::IndexPack,
+            "kept" => TestedCall::ReceivePack,
+            "memory" => TestedCall::ReceiveInMemory,
+            "open" => TestedCall::OpenStore,
+            "refs" => TestedCall::ReadRefs,
+            "move" => TestedCall::UpdateRefs,
+            "clone" => TestedCall::CloneRefs,
+            "url" => TestedCall::ParseUrl,
+            "served" => TestedCall::ParseServedPath,
+            _ => return None,
+        })
+    }
+}
+
 /// An update of a ref: the name, the old id and the new id.
 #[derive(Drop)]
 pub(crate) struct Update {
@@ -125,12 +143,47 @@ impl<'a> Row<'a> {
             .call_text
             .as_slice()
             .to_vec(*self.call_text.allocator())?;
-        self.checks.push(RowCheck {
+        let check = RowCheck {
             tested_call,
             id,
             text,
             expected,
-        })?;
-        Ok(())
+        };
+        self.checks.push(check).map_err(Trouble::from)
+    }
+
+    /// Sets the field that a line with this first word describes, or adds a check. `bytes` is
+    /// `value` after all escapes are replaced.
+    pub(crate) fn set_field(
+        &mut self,
+        keyword: &str,
+        value: &'a str,
+        bytes: Vec<u8>,
+    ) -> Result<(), Trouble> {
+        if let Some(tested_call) = TestedCall::named(keyword) {
+            return self.add_check(tested_call, None, bytes);
+        }
+        match keyword {
+            "or" => self.other_results.push(bytes).map_err(Trouble::from),
+            "asked" => {
+                self.call_text = bytes;
+                Ok(())
+            }
+            _ => {
+                self.set_name(keyword, value);
+                Ok(())
+            }
+        }
+    }
+
+    // Sets the name of a pack or a store, or how the row is tested.
+    fn set_name(&mut self, keyword: &str, value: &'a str) {
+        match keyword {
+            "of" => self.pack = value,
+            "in" => self.store = value,
+            "then" => self.replacement_store = value,
+            "sweep" => self.is_swept = true,
+            _ => self.is_large = true,
+        }
     }
 }

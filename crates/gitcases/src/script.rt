@@ -10,6 +10,7 @@ use crate::stores::{File, Store, loose_text};
 use crate::trouble::Trouble;
 use gitobject::ObjectType;
 use gitpack::IndexLimits;
+use gname::Oid;
 use gzlib::Deflater;
 use std::alloc::Global;
 
@@ -166,31 +167,15 @@ impl<'a> Script<'a> {
     }
 
     fn add_to_pack(&mut self, keyword: &str, value: &str) -> Result<(), Trouble> {
-        let (first, other_values) = split_first_word(value);
         let Some(pack) = self.packs.last_mut() else {
             return Err(Trouble::NoCurrentItem);
         };
         match keyword {
-            "whole" => pack.put_whole(&mut self.deflater, self.names.find_object(first)?),
-            "entry" => {
-                let (size, line) = split_first_word(other_values);
-                let body = expand_escapes(self.alloc, &self.names, line)?;
-                pack.begin_entry(parse_type_number(first)?, parse_number(size)?)?;
-                pack.put_stream(&mut self.deflater, body.as_slice())
-            }
-            "back" => {
-                let distance = pack.distance_of(parse_number(first)?)?;
-                pack.put_offset_delta(distance, self.names.find_text(other_values)?)
-            }
-            "far" => {
-                let distance = parse_number(first)?;
-                pack.put_offset_delta(distance, self.names.find_text(other_values)?)
-            }
-            "by-id" => {
-                let base = self.names.find_object(first)?;
-                pack.put_ref_delta(base, self.names.find_text(other_values)?)
-            }
-            "head" => pack.begin_entry(parse_type_number(first)?, parse_number(other_values)?),
+            "whole" => put_whole(&self.names, &mut self.deflater, pack, value),
+            "entry" => put_entry(self.alloc, &self.names, &mut self.deflater, pack, value),
+            "back" | "far" => put_offset_delta(&self.names, pack, keyword, value),
+            "by-id" => put_ref_delta(&self.names, pack, value),
+            "head" => begin_entry(pack, value),
             _ => self.set_pack_field(keyword, value),
         }
     }
@@ -212,13 +197,12 @@ impl<'a> Script<'a> {
 
     fn begin_index(&mut self, value: &'a str) -> Result<(), Trouble> {
         let (name, pack) = split_first_word(value);
-        self.indexes.push(PackIndex::new(self.alloc, name, pack))?;
-        Ok(())
+        self.indexes
+            .push(PackIndex::new(self.alloc, name, pack))
+            .map_err(Trouble::from)
     }
 
-    // Adds an entry to an index, or marks the index as unsorted. The line of an index entry states
-    // the name of an object and the number of a pack entry. The index entry has the offset of the
-    // pack entry, unless the line states another offset.
+    // Adds an entry to an index, or marks the index as unsorted.
     fn add_to_index(&mut self, keyword: &str, value: &str) -> Result<(), Trouble> {
         let Some(last) = self.indexes.last() else {
             return Err(Trouble::NoCurrentItem);
@@ -227,16 +211,24 @@ impl<'a> Script<'a> {
         if keyword == "unsorted" {
             return self.set_unsorted();
         }
-        let (name, rest) = split_first_word(value);
-        let (number, offset) = split_first_word(rest);
-        let (start, crc) = self.pack(pack)?.offset_and_crc(parse_number(number)?)?;
-        let offset = entry_offset(start, offset)?;
+        let (id, crc, offset) = self.index_entry(pack, value)?;
         let crc = if keyword == "line" { crc } else { !crc };
-        let id = self.names.find_object(name)?.id;
         match self.indexes.last_mut() {
             Some(index) => index.push(id, crc, offset),
             None => Err(Trouble::NoCurrentItem),
         }
+    }
+
+    // Returns the id, the CRC-32 and the offset of an index entry. Its line states the name of an
+    // object and the number of a pack entry. The index entry has the offset of the pack entry,
+    // unless the line states another offset.
+    fn index_entry(&self, pack: &str, value: &str) -> Result<(Oid, u32, u64), Trouble> {
+        let (name, rest) = split_first_word(value);
+        let (number, offset) = split_first_word(rest);
+        let (start, crc) = self.pack(pack)?.offset_and_crc(parse_number(number)?)?;
+        let offset = entry_offset(start, offset)?;
+        let id = self.names.find_object(name)?.id;
+        Ok((id, crc, offset))
     }
 
     fn set_unsorted(&mut self) -> Result<(), Trouble> {
@@ -318,41 +310,25 @@ impl<'a> Script<'a> {
 
     fn begin_row(&mut self, title: &'a str) -> Result<(), Trouble> {
         let row = Row::new(self.alloc, self.file_name, self.line_number, title);
-        self.rows.push(row)?;
-        Ok(())
+        self.rows.push(row).map_err(Trouble::from)
     }
 
     fn add_to_row(&mut self, keyword: &str, value: &'a str) -> Result<(), Trouble> {
         match keyword {
-            "read" | "raw" => return self.add_read(keyword, value),
-            "has" | "tips" => return self.add_ids(keyword, value),
-            "limits" => return self.set_limits(value),
-            "update" => return self.add_update(value),
-            _ => {}
+            "read" | "raw" => self.add_read(keyword, value),
+            "has" | "tips" => self.add_ids(keyword, value),
+            "limits" => self.set_limits(value),
+            "update" => self.add_update(value),
+            _ => self.set_row_field(keyword, value),
         }
-        let expected = self.expand_escapes(value)?;
-        let Some(row) = self.rows.last_mut() else {
-            return Err(Trouble::NoCurrentItem);
-        };
-        match keyword {
-            "of" => row.pack = value,
-            "in" => row.store = value,
-            "then" => row.replacement_store = value,
-            "index" => row.add_check(TestedCall::IndexPack, None, expected)?,
-            "kept" => row.add_check(TestedCall::ReceivePack, None, expected)?,
-            "memory" => row.add_check(TestedCall::ReceiveInMemory, None, expected)?,
-            "open" => row.add_check(TestedCall::OpenStore, None, expected)?,
-            "refs" => row.add_check(TestedCall::ReadRefs, None, expected)?,
-            "move" => row.add_check(TestedCall::UpdateRefs, None, expected)?,
-            "clone" => row.add_check(TestedCall::CloneRefs, None, expected)?,
-            "url" => row.add_check(TestedCall::ParseUrl, None, expected)?,
-            "served" => row.add_check(TestedCall::ParseServedPath, None, expected)?,
-            "asked" => row.call_text = expected,
-            "or" => row.other_results.push(expected)?,
-            "sweep" => row.is_swept = true,
-            _ => row.is_large = true,
+    }
+
+    fn set_row_field(&mut self, keyword: &str, value: &'a str) -> Result<(), Trouble> {
+        let bytes = self.expand_escapes(value)?;
+        match self.rows.last_mut() {
+            Some(row) => row.set_field(keyword, value, bytes),
+            None => Err(Trouble::NoCurrentItem),
         }
-        Ok(())
     }
 
     fn add_read(&mut self, keyword: &str, value: &str) -> Result<(), Trouble> {
@@ -383,7 +359,10 @@ impl<'a> Script<'a> {
         let new = self.names.find_object(new)?.id;
         let name = self.expand_escapes(line)?;
         match self.rows.last_mut() {
-            Some(row) => Ok(row.updates.push(Update { name, old, new })?),
+            Some(row) => row
+                .updates
+                .push(Update { name, old, new })
+                .map_err(Trouble::from),
             None => Err(Trouble::NoCurrentItem),
         }
     }
@@ -421,6 +400,63 @@ impl<'a> Script<'a> {
             None => Err(Trouble::NoCurrentItem),
         }
     }
+}
+
+// Appends the whole object that the line names.
+fn put_whole(
+    names: &Names<'_>,
+    deflater: &mut Deflater<Global>,
+    pack: &mut Pack<'_>,
+    value: &str,
+) -> Result<(), Trouble> {
+    let (name, _) = split_first_word(value);
+    pack.put_whole(deflater, names.find_object(name)?)
+}
+
+// Appends an entry with the type, the size and the text that the line states.
+fn put_entry(
+    alloc: Global,
+    names: &Names<'_>,
+    deflater: &mut Deflater<Global>,
+    pack: &mut Pack<'_>,
+    value: &str,
+) -> Result<(), Trouble> {
+    let (kind, other_values) = split_first_word(value);
+    let (size, line) = split_first_word(other_values);
+    let body = expand_escapes(alloc, names, line)?;
+    pack.begin_entry(parse_type_number(kind)?, parse_number(size)?)?;
+    pack.put_stream(deflater, body.as_slice())
+}
+
+// Appends an offset delta. The line states the name of the delta, and either how many entries
+// before it the base is, or the distance of the base in bytes.
+fn put_offset_delta(
+    names: &Names<'_>,
+    pack: &mut Pack<'_>,
+    keyword: &str,
+    value: &str,
+) -> Result<(), Trouble> {
+    let (number, name) = split_first_word(value);
+    let number = parse_number(number)?;
+    let distance = if keyword == "back" {
+        pack.distance_of(number)?
+    } else {
+        number
+    };
+    pack.put_offset_delta(distance, names.find_text(name)?)
+}
+
+// Appends a ref delta. The line states the names of the base and of the delta.
+fn put_ref_delta(names: &Names<'_>, pack: &mut Pack<'_>, value: &str) -> Result<(), Trouble> {
+    let (base, name) = split_first_word(value);
+    let base = names.find_object(base)?;
+    pack.put_ref_delta(base, names.find_text(name)?)
+}
+
+// Begins an entry with the type and the size that the line states.
+fn begin_entry(pack: &mut Pack<'_>, value: &str) -> Result<(), Trouble> {
+    let (kind, size) = split_first_word(value);
+    pack.begin_entry(parse_type_number(kind)?, parse_number(size)?)
 }
 
 // Parses the offset of an entry. An empty text means `start`, and a leading `+` marks a distance

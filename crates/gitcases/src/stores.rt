@@ -42,8 +42,7 @@ impl<'a> Store<'a> {
     }
 
     pub(crate) fn add_file(&mut self, path: String, bytes: Vec<u8>) -> Result<(), Trouble> {
-        self.files.push(File { path, bytes })?;
-        Ok(())
+        self.files.push(File { path, bytes }).map_err(Trouble::from)
     }
 
     /// Sets the path of the directory to which further objects are added.
@@ -74,21 +73,28 @@ impl<'a> Store<'a> {
         id: &Oid,
         text: &[u8],
     ) -> Result<(), Trouble> {
-        let mut digits = Vec::new(alloc);
-        id.push_hex(&mut digits)?;
-        let (Some(first), Some(rest)) = (digits.as_slice().get(..2), digits.as_slice().get(2..))
-        else {
-            return Err(Trouble::UnknownName);
-        };
-        let (Ok(first), Ok(rest)) = (str::from_utf8(first), str::from_utf8(rest)) else {
-            return Err(Trouble::UnknownName);
-        };
-        let objects_folder = self.objects_folder;
-        let path = format!(in alloc; "{objects_folder}/{first}/{rest}")?;
+        let path = loose_path(alloc, self.objects_folder, id)?;
         let mut stream = Vec::new(alloc);
         deflater.deflate(text, &mut stream)?;
         self.add_file(path, stream)
     }
+}
+
+// Returns the path of a loose object: its directory has the first two digits of the id as its name.
+fn loose_path(alloc: Global, objects_folder: &str, id: &Oid) -> Result<String, Trouble> {
+    let mut digits = Vec::new(alloc);
+    id.push_hex(&mut digits)?;
+    path_of_digits(alloc, objects_folder, digits.as_slice())
+}
+
+fn path_of_digits(alloc: Global, objects_folder: &str, digits: &[u8]) -> Result<String, Trouble> {
+    let (Some(first), Some(rest)) = (digits.get(..2), digits.get(2..)) else {
+        return Err(Trouble::UnknownName);
+    };
+    let (Ok(first), Ok(rest)) = (str::from_utf8(first), str::from_utf8(rest)) else {
+        return Err(Trouble::UnknownName);
+    };
+    format!(in alloc; "{objects_folder}/{first}/{rest}").map_err(Trouble::from)
 }
 
 /// Returns the text of a loose object before compression.
