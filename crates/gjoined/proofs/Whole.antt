@@ -1,4 +1,4 @@
--- A whole fetch over two connected ends is a run of a world.
+-- A whole fetch over two joined ends is a run of a world.
 use Rattle.std.proofs.Common.{All, [], ◌∷◌, ◌++◌, ◌≡◌, ◌⊎◌, ◌∙◌, ◌≤◌, ℕ, false, List, length, map, Option, Some, None, Vec}
 use Rattle.std.proofs.Common.{Result, Ok, Err, inl, inr, refl, sym, ap, subst, append-nil, append_assoc}
 use Rattle.std.specs.Io.KnownBytes.{Appends}
@@ -127,7 +127,7 @@ module _ {A : Type 0} {tools : PackTools A} (laws : JoinedLaws tools) where
     refl,
   )
 
-  -- ---- the rounds over two connected ends
+  -- ---- the rounds over two joined ends
 
   module _ (server : Server A) (repo new : RepoState A) (specs : Vec Refspec A) (asked answered : List ℕ) where
     abbrev format : Format

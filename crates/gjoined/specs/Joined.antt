@@ -1,4 +1,4 @@
--- Two connected ends: a client that fetches and a server, each of which reads the bytes that the other wrote. Such a
+-- Two joined ends: a client that fetches, and a server. Each can read exactly the bytes that the other wrote. Such a
 -- fetch is a run of a world.
 use Rattle.std.specs.Prelude.{◌≡◌, ◌⊎◌, ℕ, ◌+◌, List, [], ◌∷◌, ◌++◌, length, map, All, Option, Some, Result, Ok, Vec}
 use Rattle.std.specs.List.{flat_map}
@@ -41,8 +41,8 @@ pub record Carries (output : Output) (input : Input) (bytes : Bytes) : Type 0 wh
 
 -- ---- the events of a fetch
 
--- the three events of each round from round `n` on, and the events `late` after them: in a round the client sends its
--- request, the server replies, and the complete reply arrives
+-- The three events of each turn from turn `n` on, and then the events `late`. In a turn the client sends its request,
+-- the server replies, and the complete reply arrives.
 abbrev pub events_from : {A : Type 0} → ℕ → List Kept → List (Event A) → List (Event A)
 events_from n [] late = late
 events_from n (kept ∷ more) late =
@@ -100,8 +100,9 @@ module _ {A : Type 0} (tools : PackTools A) where
     pub rest : unread ≡ Some more
 
   -- A run of the world of this server and this client, with the events of a fetch: its last world has the repository
-  -- `new` and an unchanged server. The client first wrote the requests of the run. It first read the advertisement and
-  -- the replies of the run, if any. If the world can start, each step keeps its promises.
+  -- `new` and an unchanged server. The client first wrote the requests of the run. The server's output
+  -- begins with the advertisement and the replies of the run, if any. If the world can start, each step keeps its
+  -- promises.
   pub record IsSomeRun (server : Server A) (repo : RepoState A) (specs : Vec Refspec A) (asked answered : Bytes)
       (new : RepoState A) : Type 0 where
     pub events : List (Event A)
@@ -119,8 +120,8 @@ module _ {A : Type 0} (tools : PackTools A) where
     pub read : (last.kept ≡ []) ⊎ (answered ≡ canonical_all (advert_packets server.graph.format)
         ++ flat_map (λ one. reply_bytes one.reply) last.kept ++ more)
 
-  -- A client's fetch and a server's conversation, each of which reads exactly the bytes that the other wrote. The fetch
-  -- has the default options. The types of server, repository and refspecs guarantee the first premises.
+  -- A client's fetch and a server's conversation. Each end can read exactly the bytes that the other wrote. The fetch has
+  -- the default options. The types of server, repository and refspecs guarantee the first premises.
   pub record AreJoined (server : Server A) (repo : RepoState A) (specs : Vec Refspec A) (asked answered : Bytes)
       (input : Input) (new : RepoState A) (result : Result (Fetched A) (FetchFault A)) : Type 0 where
     pub ends : AreEndsConnected (new_world server repo)
@@ -137,7 +138,7 @@ module _ {A : Type 0} (tools : PackTools A) where
         output new result
     pub serves : Serves server tools.packs tools.pack_fails Plain heard said count ended
 
-  -- A fetch that succeeds over two connected ends is a run of the world of the same server and the same client. The
+  -- A fetch that succeeds over two joined ends is a run of the world of the same server and the same client. The
   -- last world of the run has the repository that the fetch left.
   abbrev pub FetchesAreRuns : Type 0
   FetchesAreRuns =
@@ -145,7 +146,7 @@ module _ {A : Type 0} (tools : PackTools A) where
       (asked answered : Bytes) → AreJoined server repo specs asked answered input new (Ok fetched)
       → IsWorldRun server repo specs asked answered input.read.new new fetched
 
-  -- whatever the result of a fetch over two connected ends, it left the repository that some run of the world left
+  -- whatever the result of a fetch over two joined ends, it left the repository that some run of the world left
   abbrev pub AnyFetchIsARun : Type 0
   AnyFetchIsARun =
       (server : Server A) (repo new : RepoState A) (specs : Vec Refspec A) (result : Result (Fetched A) (FetchFault A))

@@ -1,10 +1,10 @@
-//! Two connected ends are a run of a world: a client that fetches and a server, each of which reads
-//! exactly the bytes that the other wrote.
+//! A fetch over two joined ends is a run of a world. The ends are a client that fetches and a
+//! server. Each end can read exactly the bytes that the other wrote.
 //!
 //! # Proved
 //!
 //! Consider a fetch of `gfetch` with the default options, and a conversation of a server of
-//! `gserver`. Each end reads exactly the bytes that the other wrote ([`fetches_are_runs`]).
+//! `gserver` ([`fetches_are_runs`]).
 //!
 //! - **A fetch that succeeds is a run of a world** (`FetchesAreRuns` in `specs/Joined.antt`). The
 //!   world (`gworld`) is made of the same server and the same client repository. The events are
@@ -13,22 +13,22 @@
 //!   The outcome of `Settle` counts the ref updates of the fetch.
 //! - The run has the messages that were exchanged. The client wrote the requests of the run and a
 //!   lone flush packet. It read the advertisement and the replies of the run, and nothing more.
-//! - **Any fetch left the repository that a run left**, whatever its result (`AnyFetchIsARun`). The
-//!   run has the events of a fetch, perhaps without `Settle`, or no events. Only `Settle` may fail.
-//!   The client first wrote the requests of the run, and read its replies.
+//! - **Any fetch left the repository that some run left**, whatever its result (`AnyFetchIsARun`).
+//!   The run has the events of a fetch, perhaps without `Settle`, or no events. The client's output
+//!   begins with the requests of the run, and the server's with the advertisement and the replies.
 //! - All promises of a world's steps hold for these runs, if the two ends can start a world. They
 //!   can if they have one object format, and no object differs under the same id.
-//! - The server's conversation may have any end. The client ended it, or the server refused a
-//!   request, ran out of memory or could not write.
+//! - The server's conversation may have any end. The client or its input ended it, or the server
+//!   refused a request, ran out of memory or could not write.
 //!
 //! # What the laws leave open
 //!
 //! - A session of a world has the default pack options and size limit, and replies that end with a
 //!   flush packet. The laws do not cover other fetches, listings, or the `git://` transport.
-//! - The run of a fetch that fails ends before the failing request or reply. It lacks the failing
-//!   event, except if `Settle` fails. The laws do not relate other faults to outcomes.
-//! - The premise is about whole conversations: an end can read exactly the bytes that the other
-//!   wrote. The laws do not say when bytes arrive.
+//! - For a failed fetch that left the repository unchanged, the second law also permits the run
+//!   without events. The law does not relate the fault of a fetch to the outcomes of the run.
+//! - The premise is about whole conversations, whose bytes are known at both ends. A socket does not
+//!   record its bytes. The laws do not say when bytes arrive, or which bytes a failed fetch read.
 //!
 //! No program of this repository uses this crate, and it has no tests.
 //!
@@ -54,8 +54,8 @@ use gpkt::laws::{canonical_spells, has_four_bytes, one_begins, one_reading, spel
 use gworld::laws::{ends_stay_connected, runs_keep_promises};
 use std::alloc::Allocator;
 
-/// Proves that a fetch over two connected ends is a run of the world of the same server and client,
-/// if the fetch succeeds. Each end must read exactly the bytes that the other wrote. Any fetch,
+/// Proves that a fetch over two joined ends is a run of the world of the same server and client, if
+/// the fetch succeeds. Each end can read exactly the bytes that the other wrote. Any fetch,
 /// successful or not, left the repository that some run of this world left.
 pub fn fetches_are_runs<A: Allocator + Copy, P: Packer<A>, I: KeepingIndexer<A>>()
     ensures { (packer : P) → JoinedFetchesAreRuns (tools_of (P.packs packer) (P.pack_fails packer)
