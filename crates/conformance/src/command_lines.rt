@@ -22,13 +22,13 @@ const EMPTY_ARGUMENT: &str = "\"\"";
 /// Returns the result of parsing the command line in `text`.
 pub fn parsed_command(alloc: Global, text: &[u8]) -> Result<String, Trouble> {
     let Ok(text) = std::str::from_utf8(text) else {
-        return Ok(String::from_str(alloc, "no text")?);
+        return String::from_str(alloc, "no text").map_err(Trouble::from);
     };
     let mut arguments = Vec::new(alloc);
     push_arguments(alloc, text, &mut arguments)?;
     match read_command(alloc, arguments.as_slice()) {
         Some(command) => format_command(alloc, &command),
-        None => Ok(String::from_str(alloc, "none")?),
+        None => String::from_str(alloc, "none").map_err(Trouble::from),
     }
 }
 
@@ -67,13 +67,7 @@ fn format_command(alloc: Global, command: &Gitv2Command) -> Result<String, Troub
 }
 
 fn format_fetch(alloc: Global, fetch: &Fetch) -> Result<String, Trouble> {
-    let transport = match &fetch.place {
-        Some(place) => {
-            let location = format_location(alloc, place)?;
-            format!(in alloc; "tcp={location}")?
-        }
-        None => String::from_str(alloc, "stdio")?,
-    };
+    let transport = format_transport(alloc, fetch)?;
     let limit = fetch.limit.bytes();
     let ends = format_reply_ends(fetch.ends);
     let line = format!(in alloc; "fetch {transport} limit={limit} {ends}")?;
@@ -83,6 +77,16 @@ fn format_fetch(alloc: Global, fetch: &Fetch) -> Result<String, Trouble> {
         &[fetch.file.as_str()],
         fetch.specs.as_slice(),
     )
+}
+
+fn format_transport(alloc: Global, fetch: &Fetch) -> Result<String, Trouble> {
+    match &fetch.place {
+        Some(place) => {
+            let location = format_location(alloc, place)?;
+            format!(in alloc; "tcp={location}").map_err(Trouble::from)
+        }
+        None => String::from_str(alloc, "stdio").map_err(Trouble::from),
+    }
 }
 
 fn format_serve(alloc: Global, serve: &Serve) -> Result<String, Trouble> {
@@ -109,7 +113,7 @@ fn format_location(alloc: Global, location: &Location) -> Result<String, Trouble
         Ok(path) => path,
         Err(_) => "",
     };
-    Ok(format!(in alloc; "{address} path={path}")?)
+    format!(in alloc; "{address} path={path}").map_err(Trouble::from)
 }
 
 fn format_reply_ends(ends: Ends) -> &'static str {
@@ -138,10 +142,10 @@ fn command_text(
 
 fn add_argument(argument: &str, line: &mut String) -> Result<(), Trouble> {
     line.push(' ')?;
-    line.push_str(if argument.is_empty() {
+    let word = if argument.is_empty() {
         EMPTY_ARGUMENT
     } else {
         argument
-    })?;
-    Ok(())
+    };
+    line.push_str(word).map_err(Trouble::from)
 }

@@ -85,17 +85,31 @@ where
         report: Writer::new(run.alloc, DeviceLimits::NONE),
         errors: Writer::new(run.alloc, DeviceLimits::NONE),
     };
-    let run_outcome = match run.command.program {
-        Program::Serve => serve_connections(run, endpoint, &mut printed)?,
-        Program::Fetch => fetch_on_connection(run, endpoint, &mut printed)?,
-        _ => list_on_connection(run, endpoint, &mut printed)?,
-    };
+    let run_outcome = run_command(run, endpoint, &mut printed)?;
     let PrintedLines { report, errors } = printed;
     Ok(ConnectionRun {
         run_outcome,
         report,
         errors,
     })
+}
+
+fn run_command<A, C, L, S>(
+    run: &CommandRun<'_, '_, '_, A>,
+    endpoint: Endpoint<'_, C, L>,
+    printed: &mut PrintedLines,
+) -> Result<RunOutcome, Trouble>
+where
+    A: Allocator + Copy,
+    C: Clock,
+    L: OpenListener<Stream = S> + Drop,
+    S: Read + Write + OpenStream + Drop,
+{
+    match run.command.program {
+        Program::Serve => serve_connections(run, endpoint, printed),
+        Program::Fetch => fetch_on_connection(run, &endpoint.listener, printed),
+        _ => list_on_connection(run, &endpoint.listener, printed),
+    }
 }
 
 fn serve_connections<A, C, L, S>(
@@ -160,19 +174,19 @@ where
     )
 }
 
-fn fetch_on_connection<A, C, L, S>(
+fn fetch_on_connection<A, L, S>(
     run: &CommandRun<'_, '_, '_, A>,
-    endpoint: Endpoint<'_, C, L>,
+    listener: &L,
     printed: &mut PrintedLines,
 ) -> Result<RunOutcome, Trouble>
 where
     A: Allocator + Copy,
-    L: OpenListener<Stream = S> + Drop,
+    L: OpenListener<Stream = S>,
     S: Read + Write + OpenStream + Drop,
 {
     let arguments = split_words(run.tested_alloc, run.command.operands)?;
     match parse_specs(run.tested_alloc, arguments.as_slice()) {
-        Ok(specs) => fetch_specs(run, specs.as_slice(), &endpoint.listener, printed),
+        Ok(specs) => fetch_specs(run, specs.as_slice(), listener, printed),
         Err(fault) => Ok(end_with_fault(run, fault, &mut printed.errors)),
     }
 }
@@ -227,20 +241,20 @@ where
     )
 }
 
-fn list_on_connection<A, C, L, S>(
+fn list_on_connection<A, L, S>(
     run: &CommandRun<'_, '_, '_, A>,
-    endpoint: Endpoint<'_, C, L>,
+    listener: &L,
     printed: &mut PrintedLines,
 ) -> Result<RunOutcome, Trouble>
 where
     A: Allocator + Copy,
-    L: OpenListener<Stream = S> + Drop,
+    L: OpenListener<Stream = S>,
     S: Read + Write + OpenStream + Drop,
 {
     let arguments = split_words(run.tested_alloc, run.command.operands)?;
     match parse_prefixes(run, arguments.as_slice()) {
         Ok(prefixes) => {
-            let (stream, _) = endpoint.listener.accept()?;
+            let (stream, _) = listener.accept()?;
             run.refusing_alloc.refuse_allocation(run.refused_allocation);
             let reply = list_over_stream(run, prefixes.as_slice(), stream);
             let outcome = conclude_listing(run, reply, &mut printed.report);

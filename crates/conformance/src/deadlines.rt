@@ -311,11 +311,8 @@ fn run_on_connections(
     let Ok(connections) = u32::try_from(behaviors.len()) else {
         return Err(Trouble::TestIo);
     };
+    let late_connections = connections_to_peers(alloc, row, behaviors)?;
     let clock = SimulatedClock::new(clock_behavior);
-    let mut late_connections = Vec::new(alloc);
-    for behavior in behaviors {
-        late_connections.push(LateConnection::new(alloc, &row.conversation, *behavior))?;
-    }
     let endpoint = Endpoint {
         clock: &clock,
         listener: LateListener::new(&clock, late_connections.as_slice()),
@@ -331,6 +328,19 @@ fn run_on_connections(
     )
 }
 
+// Returns a connection to a peer of each behavior.
+fn connections_to_peers<'r>(
+    alloc: Global,
+    row: &'r Row<'_>,
+    behaviors: &[PeerBehavior],
+) -> Result<Vec<LateConnection<'r>>, Trouble> {
+    let mut late_connections = Vec::new(alloc);
+    for behavior in behaviors {
+        late_connections.push(LateConnection::new(alloc, &row.conversation, *behavior))?;
+    }
+    Ok(late_connections)
+}
+
 fn connection_results(
     alloc: Global,
     row: &Row<'_>,
@@ -338,22 +348,28 @@ fn connection_results(
     late_connections: &[LateConnection<'_>],
     time: Duration,
 ) -> Result<ConnectionResults, Trouble> {
+    let is_last_served = is_served(alloc, row, late_connections.last())?;
+    let output = accepted_by_peer(alloc, late_connections.first())?;
     let ConnectionRun {
         run_outcome,
         report,
         errors,
     } = connection_run;
     Ok(ConnectionResults {
-        first: RunResults::on_connection(
-            run_outcome,
-            accepted_by_peer(alloc, late_connections.first())?,
-            report,
-            errors,
-        ),
-        is_last_served: accepted_by_peer(alloc, late_connections.last())?.written_bytes()
-            == row.conversation.output.as_slice(),
+        first: RunResults::on_connection(run_outcome, output, report, errors),
+        is_last_served,
         time,
     })
+}
+
+// Returns whether the peer of a connection accepted exactly the row's expected output.
+fn is_served(
+    alloc: Global,
+    row: &Row<'_>,
+    connection: Option<&LateConnection<'_>>,
+) -> Result<bool, Trouble> {
+    let accepted = accepted_by_peer(alloc, connection)?;
+    Ok(accepted.written_bytes() == row.conversation.output.as_slice())
 }
 
 // Returns the bytes that the peer of a connection accepted.

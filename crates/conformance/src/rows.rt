@@ -209,25 +209,48 @@ fn test_row<R: System>(
         if (row.is_long && !variation.applies_to_long_rows()) || !tally.depth.includes(variation) {
             continue;
         }
-        let mut row_test = RowTest::new(rt.alloc(), row);
-        let failed_run = match test_variation(rt, run, &mut row_test, row, variation) {
-            Ok(failed_run) => failed_run,
-            Err(trouble) => {
-                return print_trouble(rt, run.case.file_name, run.case.line_number, trouble, tally);
-            }
-        };
-        tally.count_runs(variation, row_test.runs);
-        if let Some(failed_run) = failed_run {
-            return print_failure(
-                rt,
-                run,
-                (variation, failed_run),
-                row_test.printed.as_slice(),
-                tally,
-            );
+        if !passes_variation(rt, run, row, variation, tally)? {
+            break;
         }
     }
     Ok(())
+}
+
+// Tests a row with one variation, counts the runs, and prints a failure. Returns whether no run
+// failed.
+fn passes_variation<R: System>(
+    rt: &R,
+    run: CaseRun<'_>,
+    row: &Row<'_>,
+    variation: Variation,
+    tally: &mut Tally,
+) -> io::Result<bool> {
+    let mut row_test = RowTest::new(rt.alloc(), row);
+    match test_variation(rt, run, &mut row_test, row, variation) {
+        Ok(failed_run) => {
+            tally.count_runs(variation, row_test.runs);
+            let printed = row_test.printed.as_slice();
+            print_if_failed(rt, run, (variation, failed_run), printed, tally)?;
+            Ok(failed_run.is_none())
+        }
+        Err(trouble) => {
+            print_trouble(rt, run.case.file_name, run.case.line_number, trouble, tally)?;
+            Ok(false)
+        }
+    }
+}
+
+fn print_if_failed<R: Print>(
+    rt: &R,
+    run: CaseRun<'_>,
+    (variation, failed_run): (Variation, Option<usize>),
+    printed: &[u8],
+    tally: &mut Tally,
+) -> io::Result<()> {
+    match failed_run {
+        Some(failed_run) => print_failure(rt, run, (variation, failed_run), printed, tally),
+        None => Ok(()),
+    }
 }
 
 // Tests a row with one variation, and returns the number of the first run that failed, if any.
