@@ -1,0 +1,12 @@
+//! Two ends of a connection in one process, which take turns.
+//!
+//! An [`End`] is a connection with its source and its sink. [`join`] runs two ends alternately: the
+//! bytes that one end writes are read at the other end.
+#![tactic(auto)]
+
+mod end;
+mod joining;
+mod moving;
+
+pub use crate::end::End;
+pub use crate::joining::join;
