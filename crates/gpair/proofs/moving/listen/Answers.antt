@@ -13,7 +13,7 @@ loop-unread-init g c = record {
 
 pub hear_some-requires-clause-held : goal.hear_some-requires-clause-held
 hear_some-requires-clause-held g c =
-    held_after g.C.Conversation.holds g.C.Conversation.turn _ _ _ _ _ c.loop-unread.invariant.hears.goes c.requires
+    held_after g.C.Conversation.holds g.C.Conversation.turn _ _ _ _ _ c.loop-unread.invariant.hears.goes c.requires.held
 
 pub loop-unread-preserved : goal.loop-unread-preserved
 loop-unread-preserved g c = record {
