@@ -5,8 +5,11 @@
 #![tactic(auto)]
 
 mod end;
+mod fetching;
 mod joining;
 mod moving;
+mod running;
 
 pub use crate::end::End;
 pub use crate::joining::join;
+pub use crate::running::run_joined;
