@@ -45,7 +45,7 @@ where
     F: Source,
     V: Sink,
     requires far_held { IsHeld D.holds far.old.connection }
-    ensures fetches { HearsAll (change_of S.remaining devices.0 result.1.0) (λ read lost.
+    ensures { HearsAll (change_of S.remaining devices.0 result.1.0) (λ read lost.
         FetchesOver K.indexes K.index_fails
         (start_for repo.old plan.now.specs.now plan.now.limit plan.now.ends plan.now.options)
         (all_input read lost) (output_of W.contents W.passed_on W.is_down devices.1 result.1.1)
