@@ -1,4 +1,4 @@
-use Rattle.std.proofs.Common.{Err, Result, [], false, refl, subst}
+use Rattle.std.proofs.Common.{Result, [], false, refl, subst}
 use Rattle.std.specs.Prelude.{◌||◌}
 use Rattle.std.specs.Io.KnownBytes.{append_known}
 use Rattle.gpkt.specs.Sending.{output_of}

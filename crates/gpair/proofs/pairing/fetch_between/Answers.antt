@@ -1,4 +1,4 @@
-use Rattle.std.proofs.Common.{[], inr, refl}
+use Rattle.std.proofs.Common.{[], refl}
 use Rattle.gfetch.specs.Starts.{start_for}
 use Rattle.gpair.proofs.PairLemmas.{between_grows, between_settles}
 use Rattle.gpair.proofs.pairing.fetch_between.Goals as goal

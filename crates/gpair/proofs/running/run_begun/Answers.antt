@@ -1,9 +1,8 @@
-use Rattle.std.proofs.Common.{◌≡◌, ◌≢◌, ◌∙◌, [], Bool, true, Result, Ok, Err, IfErr, IfOk, ap, subst, sym}
-use Rattle.gpkt.specs.Change.{Change, change_of}
+use Rattle.std.proofs.Common.{◌≡◌, ◌≢◌, ◌∙◌, [], Bool, true, Result, Err, IfErr, IfOk, ap, subst, sym}
+use Rattle.gpkt.specs.Change.{change_of}
 use Rattle.gtalk.specs.declared.fault.TalkFault.{TalkFault}
 use Rattle.gtalk.specs.declared.fault.TalkFault.TheVariants.{Memory}
 use Rattle.gdialogue.specs.Running.{BreaksBy, HasRun}
-use Rattle.gdialogue.specs.Dialogues.{turn_of}
 use Rattle.gdialogue.specs.declared.begun.Begun.{Begun}
 use Rattle.gdialogue.proofs.Endings.{begun_fails, begun_over}
 use Rattle.gpair.specs.Joined.{HearsAll, all_read}
