@@ -1,11 +1,11 @@
 //! Running a connection over a blocking source and a blocking sink.
 
-ghost use Rattle.std.specs.Prelude.{◌≡◌, ◌≢◌, ◌<◌, ◌≤◌, [], Ok, Err, is_err, None, false, IfErr, IfOk, IsOkUnless, IsSome, IsTrue, OnErr, OnOk, length, take};
-ghost use Rattle.std.specs.Io.KnownBytes.{Consumes, IsAtEnd, Keeps};
+ghost use Rattle.std.specs.Prelude.{◌≡◌, ◌≢◌, ◌<◌, ◌≤◌, [], Err, None, false, IfErr, IfOk, IsOkUnless, IsSome, IsTrue, OnErr, OnOk, length};
+ghost use Rattle.std.specs.Io.KnownBytes.{Keeps};
 ghost use Rattle.gpkt.specs.Change.{change_of};
 ghost use Rattle.gpkt.specs.Devices.{KeepsPassed, PassesAll};
-ghost use Rattle.gtalk.specs.Connections.{BreaksOff, Drives, FailsBy, HasDriven, HasRoom, HearsRead, IsDone, IsHeld, IsDownBy, LeavesSink, conversation_of, has_stopped, pending_of};
-ghost use Rattle.gtalk.specs.Partial.{LeavesSource};
+ghost use Rattle.gtalk.specs.Connections.{BreaksOff, Drives, FailsBy, HasDriven, HasRoom, HearsRead, IsDone, IsHeld, IsDownBy, LeavesSink, conversation_of, has_stopped, partial_of, pending_of};
+ghost use Rattle.gtalk.specs.Partial.{Lacks, LeavesSource};
 ghost use Rattle.gtalk.specs.Talks.{AnyTalk, IsNearer};
 ghost use Rattle.gtalk.specs.steps.Driving.{IsFewer, IsLater, SaysTurn, SendsPending, reading_left};
 
@@ -17,6 +17,9 @@ use std::alloc::Allocator;
 
 // The maximum number of bytes of one read.
 const PIECE: usize = 4_096;
+
+// The maximum number of bytes of a read into a short buffer, which is quicker to clear.
+const SHORT: usize = 64;
 
 /// Runs a conversation to its end. Queued packets are flushed before the next read, and the
 /// connection receives all bytes that were read. A run that sends nothing still flushes the sink.
@@ -103,7 +106,7 @@ pub fn converse<C: Conversation, A: Allocator + Copy, S: Source, W: Sink>(
     loop {
         match connection.turn() {
             Turn::Listens => listen(connection, source),
-            Turn::Speaks => match speak(connection, sink) {
+            Turn::Speaks => match speak_turn(connection, sink) {
                 Ok(sent) => passed = passed || sent,
                 Err(fault) => return Err(fault),
             },
@@ -112,9 +115,12 @@ pub fn converse<C: Conversation, A: Allocator + Copy, S: Source, W: Sink>(
     }
 }
 
-// Sends all packets of this turn, and flushes the sink if bytes were sent. Returns whether bytes
-// were sent.
-fn speak<C: Conversation, A: Allocator + Copy, W: Sink>(
+/// Sends all packets of this turn, and flushes the sink if bytes were sent. Returns whether bytes
+/// were sent.
+///
+/// Fails with `Io` if the sink fails. A prefix of the packets of this turn is then written. Fails
+/// with `Memory` if there is not enough memory for the send queue.
+pub fn speak_turn<C: Conversation, A: Allocator + Copy, W: Sink>(
     connection: &mut Connection<C, A>,
     sink: &mut W,
 ) -> Result<bool, TalkFault>
@@ -299,22 +305,23 @@ fn listen<C: Conversation, A: Allocator + Copy, S: Source>(
 {
     loop {
         match connection.turn() {
-            Turn::Listens => hear_some(connection, source),
+            Turn::Listens => hear_some(connection, source, usize::MAX),
             Turn::Speaks | Turn::Done => return,
         }
     }
 }
 
-// Reads once, at most up to the end of the current packet. The connection receives the bytes, the
-// end of the input, or the failure of the source.
-#[tactic(auto, using(crate::proofs::Partials::lacks_fewer))]
-fn hear_some<C: Conversation, A: Allocator + Copy, S: Source>(
+/// Reads once, at most `limit` bytes and at most up to the end of the current packet. The connection
+/// receives the bytes, the end of the input, or the failure of the source. The limit must not be 0.
+pub fn hear_some<C: Conversation, A: Allocator + Copy, S: Source>(
     connection: &mut Connection<C, A>,
     source: &mut S,
+    limit: usize,
 )
     requires turn { C.turn (conversation_of connection.old) ≡ Turn.Listens }
     requires goes_on { has_stopped connection.old ≡ None }
     requires held { IsHeld C.holds connection.old }
+    requires some { 0 < limit }
     ensures hears { HearsRead C.turn C.holds connection.old connection.new
         (change_of S.remaining source.old source.new) }
     ensures source { LeavesSource (has_stopped connection.new) (S.remaining source.new)
@@ -326,25 +333,42 @@ fn hear_some<C: Conversation, A: Allocator + Copy, S: Source>(
     ensures pending { pending_of connection.new ≡ pending_of connection.old }
     ensures loans { S.loans source.new ≡ S.loans source.old }
 {
-    let mut piece = [0; PIECE];
-    let most = connection.receive_limit().min(PIECE);
-    match read_front(source, &mut piece, most) {
+    let most = connection.receive_limit().min(limit);
+    if most <= SHORT {
+        let mut piece = [0; SHORT];
+        hear_into(connection, source, &mut piece[..most]);
+    } else {
+        let mut piece = [0; PIECE];
+        hear_into(connection, source, &mut piece[..most.min(PIECE)]);
+    }
+}
+
+// Reads once into `piece`, like `hear_some`.
+#[tactic(auto, using(crate::proofs::Partials::lacks_fewer))]
+fn hear_into<C: Conversation, A: Allocator + Copy, S: Source>(
+    connection: &mut Connection<C, A>,
+    source: &mut S,
+    piece: &mut [u8],
+)
+    requires turn { C.turn (conversation_of connection.old) ≡ Turn.Listens }
+    requires goes_on { has_stopped connection.old ≡ None }
+    requires held { IsHeld C.holds connection.old }
+    requires some { 0 < length piece.old }
+    requires wanted { Lacks (partial_of connection.old) (length piece.old) }
+    ensures hears { HearsRead C.turn C.holds connection.old connection.new
+        (change_of S.remaining source.old source.new) }
+    ensures source { LeavesSource (has_stopped connection.new) (S.remaining source.new)
+        (S.is_down source.new) }
+    ensures later { IsLater C.turn C.left (conversation_of connection.old)
+        (conversation_of connection.new) }
+    ensures fewer { reading_left C.turn C.left connection.new
+        < reading_left C.turn C.left connection.old }
+    ensures pending { pending_of connection.new ≡ pending_of connection.old }
+    ensures loans { S.loans source.new ≡ S.loans source.old }
+{
+    match source.read(piece) {
         Ok(0) => connection.receive_end(),
         Ok(count) => connection.receive(&piece[..count]),
         Err(Down) => connection.receive_failure(),
     }
-}
-
-// Reads at most `most` bytes into the front of `piece`.
-fn read_front<S: Source>(source: &mut S, piece: &mut [u8], most: usize) -> Result<usize, Down>
-    requires { most ≤ length piece.old }
-    ensures few { IfOk result (λ n. n ≤ most) }
-    ensures bytes { IfOk result
-        (λ n. Consumes (S.remaining source.old) (S.remaining source.new) (take n piece.new)) }
-    ensures end { result ≡ Ok 0 → 0 < most → IsAtEnd (S.remaining source.new) }
-    ensures err { OnErr result (Keeps (S.remaining source.old) (S.remaining source.new)) }
-    ensures down { S.is_down source.new ≡ is_err result }
-    ensures loans { S.loans source.new ≡ S.loans source.old }
-{
-    source.read(&mut piece[..most])
 }

@@ -66,7 +66,7 @@ mod room;
 
 pub use crate::connection::Connection;
 pub use crate::conversation::{Conversation, Stop, Turn};
-pub use crate::driver::{converse, drive};
+pub use crate::driver::{converse, drive, hear_some, speak_turn};
 pub use crate::fault::TalkFault;
 pub use crate::outgoing::Outgoing;
 pub use crate::room::Room;

@@ -2,7 +2,7 @@ use Rattle.std.proofs.Common.{◌∙◌, Ok, ap, refl}
 use Rattle.std.proofs.KnownBytes.{Keeps-refl, Keeps-trans}
 use Rattle.gtalk.proofs.Moves.{held_after}
 use Rattle.gtalk.proofs.Driving.{first_now, later_nearer, later_nothing, said_as, said_fails, said_finished, said_finished, said_more, said_nothing, still}
-use Rattle.gtalk.proofs.driver.speak.Goals as goal
+use Rattle.gtalk.proofs.driver.speak_turn.Goals as goal
 
 pub loop-connection-init : goal.loop-connection-init
 loop-connection-init g c = record {

@@ -4,7 +4,7 @@ use Rattle.std.specs.Io.KnownBytes.{Keeps}
 use Rattle.gpkt.specs.Change.{change_of}
 use Rattle.gtalk.specs.Connections.{conversation_of, has_stopped, pending_of}
 use Rattle.gtalk.specs.steps.Driving.{IsLater, SaysTurn, saying_left}
-use Rattle.gtalk.proofs.driver.speak.Given as goal
+use Rattle.gtalk.proofs.driver.speak_turn.Given as goal
 
 abbrev pub invariant-loop-connection : goal.invariant-loop-connection
 invariant-loop-connection g l = record {
