@@ -1,7 +1,6 @@
 pub mod Deadlines
 pub mod Telling
 pub mod Listing
-pub mod Messages
 pub mod Remote
 pub mod Sockets
 pub mod Places

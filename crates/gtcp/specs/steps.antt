@@ -1,6 +1,5 @@
 -- The definitions that only private functions and proofs use.
 pub mod Deadlines
-pub mod Messages
 pub mod Sockets
 pub mod Remote
 pub mod Turns

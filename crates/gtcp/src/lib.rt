@@ -52,11 +52,7 @@
 //! - A [`Location`] has the given address and path. The host of a location is the text of the
 //!   address before the last `:`. The port after this `:` is a decimal number up to 65,535
 //!   (`specs/Places.antt`).
-//! - A [`MessageSink`] loses no byte that its caller wrote: the sink has passed the byte on, or
-//!   still holds it. `MessageSink::hold` stores bytes without writing them, and fails if the bytes
-//!   would make a message too long (`specs/Messages.antt`). The inner sink receives nothing before
-//!   a flush. A flush writes all held bytes, at most 32,768, to the inner sink. After the flush the
-//!   written bytes count as flushed. Only a pair whose fetch failed reports `PairLimit` (94).
+//! - Only a pair whose fetch failed reports `PairLimit` (94).
 //!
 //! # Only tested
 //!
@@ -85,24 +81,18 @@
 //! `None` for any arguments. [`connect_to`] could fail, or connect to another address. A [`Peer`]
 //! could read and write bytes that differ from the bytes of its stream.
 //!
-//! The contracts allow a [`MessageSink`] that never flushes the inner sink. A failed flush could
-//! write some of the held bytes. If the inner sink does not record its bytes, the contracts do not
-//! state when the inner sink receives bytes. `is_too_long` and `bytes_written` could ignore the
-//! effect of a `write` or a flush.
-//!
 //! # Dependencies
 //!
-//! The crate uses `gserve` and `gclient` for connections, `gcmd` for the shared parts of programs,
-//! and `glockfile` for stored files. The crate uses `ganswer` for the server, and `ghello`,
-//! `grequest`, `glsreply` and `gfetchreply` for messages. The crate uses `ggrammar` and `gpkt` for
-//! the shared parts of messages, `ggraph` for plain packs, and `gname` for prefixes.
+//! The crate uses `gserve` and `gclient` for connections, `gpair` for pairs, `gcmd` for the shared
+//! parts of programs, and `glockfile` for stored files. The crate uses `ganswer` for the server, and
+//! `ghello`, `grequest`, `glsreply` and `gfetchreply` for messages. The crate uses `ggrammar` and
+//! `gpkt` for the shared parts of messages, `ggraph` for plain packs, and `gname` for prefixes.
 #![tactic(auto)]
 
 mod deadline;
 mod fetching;
 mod listing;
 mod location;
-mod message;
 mod pair;
 mod remote;
 mod serving;
@@ -112,7 +102,6 @@ mod timer;
 pub use crate::deadline::{MAX_CONNECT, MAX_FIRST_LINE, MAX_REQUEST, MAX_SILENCE};
 pub use crate::fetching::{fetch_git_on, fetch_on, ls_on};
 pub use crate::location::Location;
-pub use crate::message::{MAX_MESSAGE, MessageSink};
 pub use crate::remote::{
     Listing, Pair, RemoteFetch, Service, cmd_fetch_remote, cmd_ls_remote, cmd_pair, cmd_serve,
 };

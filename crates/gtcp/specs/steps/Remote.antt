@@ -7,7 +7,8 @@ use Rattle.ggrammar.specs.declared.fault.MessageFault.{MessageFault}
 use Rattle.gobject.specs.Packs.{PackFails, Packs}
 use Rattle.grequest.specs.Building.{LimitedLsRefs}
 use Rattle.ganswer.specs.Servers.{Server}
-use Rattle.gfetch.specs.declared.fault.FetchFault.{FetchFault}
+use Rattle.gpair.specs.declared.fault.PairFault.{PairFault}
+use Rattle.gpair.specs.declared.fault.PairFault.TheVariants as pair
 use Rattle.gcmd.specs.Printing.{fault_line}
 use Rattle.gcmd.specs.Programs.{ProgramOutcome}
 use Rattle.gcmd.specs.declared.fault.ProgramFault.{ProgramFault}
@@ -48,9 +49,8 @@ module _ {A : Type 0} (server : Server A) (packs : Packs A) (fails : PackFails A
 
 -- ---- pairs
 
--- the reason why client and server stopped: a message was too long, memory for a message ran out, or the client failed
--- for another reason
-abbrev pub IsPairFault : {A : Type 0} → FetchFault A → Bool → Bool → ProgramFault A → Type 0
-IsPairFault cause true lacks_memory fault = fault ≡ program.PairLimit
-IsPairFault cause false true fault = fault ≡ program.Memory
-IsPairFault cause false false fault = fault ≡ program.Fetch cause
+-- the fault of the program for a fetch between two ends that failed
+abbrev pub program_fault_of : {A : Type 0} → PairFault A → ProgramFault A
+program_fault_of pair.TooLong = program.PairLimit
+program_fault_of pair.Memory = program.Memory
+program_fault_of (pair.Fetch cause) = program.Fetch cause

@@ -1,11 +1,12 @@
 //! Messages that a sink holds back until they are complete.
 
-ghost use Rattle.std.specs.Prelude.{◌≡◌, ◌≤◌, ◌<◌, ◌+◌, ◌++◌, ◌||◌, [], false, true, ◌&&◌, length, take, drop, nat_lt, not, is_err, IsErr, IsOk, OnErr, OnOk};
+ghost use Rattle.std.specs.Prelude.{◌≡◌, ◌≤◌, ◌<◌, ◌+◌, ◌++◌, ◌||◌, [], false, true, ◌&&◌, length, take, drop, nat_lt, not, is_err, IsErr, OnErr, OnOk};
 ghost use Rattle.std.specs.Io.KnownBytes.{Appends, Keeps, append_known};
 ghost use Rattle.gpkt.specs.Change.{change_of};
 ghost use Rattle.gpkt.specs.Devices.{KeepsPassed};
-ghost use Rattle.gtcp.specs.Messages.{max_message};
+ghost use Rattle.gpair.specs.Messages.{max_message};
 
+use crate::counting::CountsBytes;
 use gpkt::{Down, Sink};
 use std::alloc::{Allocator, Global};
 use std::marker::Model;
@@ -29,8 +30,8 @@ pub struct MessageSink<W, A: Allocator + Copy = Global> {
 
 impl<W, A: Allocator + Copy> Model for MessageSink<W, A> {
     ghost use Rattle.std.specs.Prelude.{◌≤◌, length};
-    ghost use Rattle.gtcp.specs.Messages.{Holding, max_message};
-    ghost use Rattle.gtcp.specs.steps.Messages.{holding_code};
+    ghost use Rattle.gpair.specs.Messages.{Holding, max_message};
+    ghost use Rattle.gpair.specs.steps.Messages.{holding_code};
 
     ghost Value = { Holding W };
 
@@ -214,5 +215,11 @@ impl<W: Sink, A: Allocator + Copy> Sink for MessageSink<W, A> {
             Ok(()) => Ok(()),
             Err(_) => self.fail(),
         }
+    }
+}
+
+impl<W, A: Allocator + Copy> CountsBytes for MessageSink<W, A> {
+    fn byte_count(&self) -> usize {
+        self.written
     }
 }

@@ -3,7 +3,7 @@ use Rattle.std.specs.Prelude.{ℕ, Bool, refl}
 use Rattle.std.specs.Coded.{Coded, code_by, coded×, coded_bool, coded_ℕ}
 use Rattle.gpkt.specs.steps.Devices.{bytes_code}
 use Rattle.gpkt.specs.Packets.{Bytes}
-use Rattle.gtcp.specs.Messages.{Holding}
+use Rattle.gpair.specs.Messages.{Holding}
 
 -- the encoding of a message sink as a tuple of its six parts, for executable contracts
 abbrev pub holding_code : {W : Type 0} → Coded W → Coded (Holding W)

@@ -1,0 +1,3 @@
+pub mod JoinLemmas
+pub mod RunLemmas
+pub mod PairLemmas

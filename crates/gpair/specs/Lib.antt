@@ -1,0 +1,4 @@
+pub mod Messages
+pub mod Joined
+pub mod Pairs
+pub mod steps

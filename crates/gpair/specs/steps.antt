@@ -1,0 +1,2 @@
+-- Definitions for private functions and proofs.
+pub mod Messages
