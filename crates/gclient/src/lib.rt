@@ -41,8 +41,8 @@
 //! - The first fault ends a listing. The faults are out of memory, a malformed advertisement, an
 //!   unsupported server, a malformed reply, and a failed sink. The contract states which bytes were
 //!   read and written. The client reports a failed source exactly when the source failed.
-//! - [`send_request`] writes and flushes one request, for clients that hold a different
-//!   conversation.
+//! - [`greet`] only writes and flushes the first line, for callers that run the conversation
+//!   themselves.
 //! - Each fault has the number, the name and the text of its row (`Faults` in the specs of
 //!   `gfetch`).
 //! - No call panics, overflows or reads out of bounds. A call returns if each call of its source
@@ -77,12 +77,11 @@ mod git_transport;
 mod greeting;
 pub mod laws;
 mod listing;
-mod send;
 
 pub use crate::conversation::fetch_over;
 pub use crate::git_transport::{GitFetch, fetch_git};
+pub use crate::greeting::greet;
 pub use crate::listing::list_git;
-pub use crate::send::send_request;
 pub use gclientrepo::{Ask, Asks, RefUpdate, Repo, RepoFault, compat};
 pub use gfetch::{FetchFault, Fetched, fetch_over_with, list_over};
 pub use grefs::{Spec, SpecFault};

@@ -52,7 +52,7 @@ use Rattle.gfetch.specs.Turns.{AreTurns, ClientState, FitsSource, IsTurn, IsUnta
 use Rattle.gfetch.specs.declared.side.ClientSide.{ClientSide}
 use Rattle.gfetch.specs.declared.fault.FetchFault.{FetchFault}
 use Rattle.gfetch.specs.declared.fault.FetchFault.TheVariants as fetch_fault
-use Rattle.gfetch.specs.steps.Ending.{EndsAs, EndsTalk}
+use Rattle.gfetch.specs.Endings.{EndsAs, EndsTalk}
 use Rattle.gfetch.proofs.SideLemmas.{objects_stay, objects_then}
 use Rattle.gfetch.proofs.TalkLemmas.{begun_is, dialogues_are_turns, format_is, format_takes, heard_is, not_both, pending_is, takes_same, turn_more, waits}
 

@@ -86,22 +86,6 @@ impl<A: Allocator + Copy> Client<A> {
         &self.session
     }
 
-    /// Consumes the client. Returns the repository, the session, and the target of the server's
-    /// unborn `HEAD`.
-    pub(crate) fn into_parts(self) -> (Repo<A>, Session<A>, Option<RefName<A>>)
-        ensures repo { result.0 ≡ self.repo }
-        ensures session { result.1 ≡ self.session }
-        ensures unborn { result.2 ≡ self.unborn }
-    {
-        let Client {
-            repo,
-            session,
-            unborn,
-            walk: _walk,
-        } = self;
-        (repo, session, unborn)
-    }
-
     /// Exchanges the repository with another repository.
     pub(crate) fn swap_repo(&mut self, repo: &mut Repo<A>)
         ensures { repo.new ≡ self.old.repo }

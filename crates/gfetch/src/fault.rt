@@ -81,11 +81,3 @@ impl<A: Allocator + Copy> From<MessageFault> for FetchFault<A> {
         FetchFault::Client(ClientFault::Message(cause))
     }
 }
-
-impl<A: Allocator + Copy> From<WriteFault> for FetchFault<A> {
-    ghost from_gives = { λ _ fault. fault ≡ fetch.WriteFailed };
-
-    fn from(_failed: WriteFault) -> FetchFault<A> {
-        FetchFault::WriteFailed
-    }
-}

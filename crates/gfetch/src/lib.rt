@@ -86,7 +86,7 @@ mod side;
 pub use crate::asking::{Asking, ClientReply};
 pub use crate::fault::FetchFault;
 pub use crate::fetched::Fetched;
-pub use crate::fetching::fetch_over_with;
+pub use crate::fetching::{begin_fetch, end_fetch, fetch_over_with};
 pub use crate::heard::Heard;
 pub use crate::listing::list_over;
 pub use crate::side::ClientSide;
