@@ -1,14 +1,15 @@
-//! A client of Git's fetch service, protocol version 2, over a source and a sink (gitprotocol-v2(5)).
-//! The crate adds the first line of a `git://` connection to the conversations of `gfetch`
-//! (gitprotocol-pack(5), "Git Transport"). It also fetches with the default options for packs.
+//! A client of Git's fetch service, protocol version 2, over a source and a sink
+//! (gitprotocol-v2(5)). The crate adds the first line of a `git://` connection to the conversations
+//! of `gfetch` (gitprotocol-pack(5), "Git Transport"). It also fetches with the default options for
+//! packs.
 //!
 //! # Proved
 //!
-//! The page of `gfetch` states what a conversation guarantees. It covers the bytes read and written,
-//! the refs and objects after each fault, and the number of requests ([`laws`]).
+//! The page of `gfetch` states what a conversation guarantees. It covers the bytes read and
+//! written, the refs and objects after each fault, and the number of requests ([`laws`]).
 //!
-//! - [`fetch_over`] holds the same conversation as [`fetch_over_with`], with the default options for
-//!   packs and an indexer that keeps nothing.
+//! - [`fetch_over`] holds the same conversation as [`fetch_over_with`], with the default options
+//!   for packs and an indexer that keeps nothing.
 //! - [`fetch_git`] flushes the first line before it reads anything (`specs/GitFetches.antt`). The
 //!   rest of the conversation has every guarantee of [`fetch_over_with`]. If the sink fails at the
 //!   first line, `fetch_git` reads nothing, and the repository is unchanged.
@@ -32,9 +33,9 @@
 //! # Dependencies
 //!
 //! `gfetch` holds the conversation, and `ghello` defines the first line. `gsession`, `grefs` and
-//! `gclientrepo` define the plan of a fetch, its refspecs and its repository. `gpkt` defines sources
-//! and sinks, `grequest` and `glsreply` the request for refs and its reply. `gfetchreply` defines
-//! the limit of a pack, `ggrammar` the end of a reply, and `ggraph` indexers.
+//! `gclientrepo` define the plan of a fetch, its refspecs and its repository. `gpkt` defines
+//! sources and sinks, `grequest` and `glsreply` the request for refs and its reply. `gfetchreply`
+//! defines the limit of a pack, `ggrammar` the end of a reply, and `ggraph` indexers.
 #![tactic(auto)]
 
 mod conversation;

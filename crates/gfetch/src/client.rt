@@ -38,7 +38,8 @@ pub(crate) struct Client<A: Allocator + Copy> {
     session: Session<A>,
     // The ref that the server's unborn `HEAD` points at, if a refspec fetches `HEAD`.
     unborn: Option<RefName<A>>,
-    // The walk of the previous requests for objects, or `None` if the next request starts a new one.
+    // The walk of the previous requests for objects, or `None` if the next request starts a new
+    // one.
     walk: Option<Offers<A>>,
 }
 

@@ -16,8 +16,9 @@ use std::fmt;
 #[derive(Debug, Drop)]
 pub enum FetchFault<A: Allocator + Copy = Global> {
     /// A fault of the session. With faults 20 to 25, 29, 30 and 41 to 54, a packet of the
-    /// advertisement or of a reply was rejected. Faults 60 to 63, 66, 69, 75, 82 and 84 to 86 reject
-    /// the refspecs, the content of a reply or the update of refs. With fault 64, memory ran out.
+    /// advertisement or of a reply was rejected. Faults 60 to 63, 66, 69, 75, 82 and 84 to 86
+    /// reject the refspecs, the content of a reply or the update of refs. With fault 64, memory ran
+    /// out.
     Client(ClientFault<A>),
     /// Fault 28: there is not enough memory for the buffers. Nothing was read.
     NoBuffer,

@@ -195,8 +195,8 @@ fn talk<'k, S: Source, W: Sink, A: Allocator + Copy, K: KeepingIndexer<A>>(
 }
 
 /// Ends a fetch whose dialogue the caller ran. Gives the repository back into `repo`, and updates
-/// the local refs after a dialogue without a fault. `driven` is the result of the dialogue: an error
-/// if the sink failed.
+/// the local refs after a dialogue without a fault. `driven` is the result of the dialogue: an
+/// error if the sink failed.
 ///
 /// Fails with the fault that ended the dialogue, and with `WriteFailed` if the sink failed. Fails
 /// with `Repo` if the refs can't be updated (`NotConnected`, `Refs`), or if out of memory. After

@@ -8,8 +8,8 @@
 //! [`end_fetch`]. The side owns the repository and a session, and borrows an indexer. It receives
 //! the advertisement, and then the reply to each of its requests ([`Heard`]). Its answer to a
 //! message is the next request, or a lone flush packet that ends the connection ([`ClientReply`]).
-//! The dialogue never changes the local refs. `end_fetch` gives the repository back, and updates the
-//! refs after a dialogue without a fault.
+//! The dialogue never changes the local refs. `end_fetch` gives the repository back, and updates
+//! the refs after a dialogue without a fault.
 //!
 //! The caller sends the first line of a `git://` connection.
 //!
@@ -23,8 +23,9 @@
 //! - The client flushes each request before it reads the reply. At the end, it flushes a lone flush
 //!   packet. If the sink fails, all earlier requests were flushed, and a prefix of the next one was
 //!   written.
-//! - The first fault ends the conversation. After every fault, the refs are unchanged. The graph only
-//!   gains objects, and the indexer keeps each object that the graph gains. Each ref stays connected.
+//! - The first fault ends the conversation. After every fault, the refs are unchanged. The graph
+//!   only gains objects, and the indexer keeps each object that the graph gains. Each ref stays
+//!   connected.
 //! - The client reports a failed source exactly when the source failed.
 //! - A conversation, completed or failed, has at most N + 1 requests for objects, if the local refs
 //!   reached N ids at the start ([`laws`]). The session counts each of them as a round.
@@ -67,11 +68,11 @@
 //!   borrowed indexer. Only the contract of [`fetch_over_with`] does.
 //! - Any message or request may fail with out of memory although memory is available.
 //! - The indexer may keep further objects, for example those of a rejected pack.
-//! - No contract bounds the time of an answer. The requests for objects share one walk from the tips
-//!   (`src/client.rt`), but a new walk for each request would satisfy the contracts, too.
+//! - No contract bounds the time of an answer. The requests for objects share one walk from the
+//!   tips (`src/client.rt`), but a new walk for each request would satisfy the contracts, too.
 //! - A call may queue only one packet, or no packet. An answer may be flushed more than once.
-//! - If a source or a sink does not record its bytes, the contracts say nothing about the bytes read
-//!   or written. They still state the outcome, and whether the source or the sink failed.
+//! - If a source or a sink does not record its bytes, the contracts say nothing about the bytes
+//!   read or written. They still state the outcome, and whether the source or the sink failed.
 //! - If the sink fails, no contract states how long the written prefix is.
 //! - Formatting a fault may return `fmt::Error` even if every write succeeds.
 //!

@@ -34,8 +34,8 @@ use std::alloc::Allocator;
 use std::mem;
 
 /// The client's end of a connection. The client receives the advertisement, and then the reply to
-/// each of its requests. The borrowed indexer reads the pack of a reply, and keeps the objects of an
-/// accepted pack.
+/// each of its requests. The borrowed indexer reads the pack of a reply, and keeps the objects of
+/// an accepted pack.
 ///
 /// After the last reply, the client sends a lone flush packet, which ends the connection. If a
 /// message is refused or rejected, the client sends nothing more, and stores the fault.
