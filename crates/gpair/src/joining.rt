@@ -156,9 +156,9 @@ where
     }
 }
 
-// Runs the far end until it has written more than `read` bytes, or until it can't continue: its
-// conversation is done, or it listens and has read the `given` bytes of the near end. Fails if a
-// turn of the far end failed.
+// Runs the far end until it has written more than `read` bytes, or until it can't continue. It
+// can't continue if its conversation is done, or if it listens and has read `given` bytes. Fails if
+// a turn of the far end failed.
 fn feed<D, F, V, A>(far: &mut End<D, F, V, A>, given: usize, read: usize) -> Result<(), TalkFault>
 where
     D: Conversation,

@@ -1,22 +1,23 @@
 //! Two ends of a connection in one process, which take turns.
 //!
-//! An [`End`] is a connection with its source and its sink. [`join`] runs two ends alternately. Each
-//! end writes its turn to its sink, and the other end reads these bytes from its own source. No
-//! source runs the other end. [`fetch_between`] fetches from a [`LocalServer`] into a repository.
+//! An [`End`] is a connection with its source and its sink. [`join`] runs two ends alternately.
+//! Each end writes its turn to its sink, and the other end reads these bytes from its own source.
+//! No source runs the other end. [`fetch_between`] fetches from a [`LocalServer`] into a
+//! repository.
 //!
 //! # Proved
 //!
-//! - [`join`] returns if all calls to the sources and sinks return. Each end receives all bytes that
-//!   are read from its source, in order. The sink of each end receives all bytes that the end sends,
-//!   in order (`Drives` in `gtalk`). The near end has the guarantees of `gtalk::converse`: after
-//!   success its conversation is done, and all of its turns are flushed. If its sink fails, all
-//!   earlier turns are flushed.
+//! - [`join`] returns if all calls to the sources and sinks return. Each end receives all bytes
+//!   that are read from its source, in order. The sink of each end receives all bytes that the end
+//!   sends, in order (`Drives` in `gtalk`). The near end has the guarantees of `gtalk::converse`:
+//!   after success its conversation is done, and all of its turns are flushed. If its sink fails,
+//!   all earlier turns are flushed.
 //! - [`run_joined`] runs a whole dialogue at the near end. Its contract is that of
 //!   `gdialogue::run_dialogue`, over an input of exactly the bytes that the near end received
 //!   (`HearsAll` in `specs/Joined.antt`).
 //! - [`fetch_between`] holds the conversation of a client that `gclient::fetch_git` specifies, over
-//!   some input and some output (`FetchesBetween` in `specs/Pairs.antt`). After success the refs are
-//!   settled. The graph only grows. Only a fetch that failed reports `TooLong`.
+//!   some input and some output (`FetchesBetween` in `specs/Pairs.antt`). After success the refs
+//!   are settled. The graph only grows. Only a fetch that failed reports `TooLong`.
 //! - A [`MessageSink`] loses no byte that its caller wrote: the sink has passed the byte on, or
 //!   still holds it. The inner sink receives nothing before a flush. A flush writes all held bytes,
 //!   at most 32,768, to the inner sink.
@@ -30,8 +31,8 @@
 //!
 //! - No contract states when the near end is notified that its input has ended or failed. It could
 //!   be notified although the far end could send more bytes.
-//! - No contract states the result of [`CountsBytes::byte_count`]. An end could read although it has
-//!   read all bytes of the other end.
+//! - No contract states the result of [`CountsBytes::byte_count`]. An end could read although it
+//!   has read all bytes of the other end.
 //! - No contract states what the server of a fetch does. Any failed fetch could be reported as a
 //!   message that is too long.
 //! - The contracts allow a [`MessageSink`] that never flushes the inner sink. A failed flush could

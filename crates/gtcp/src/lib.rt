@@ -84,9 +84,9 @@
 //! # Dependencies
 //!
 //! The crate uses `gserve` and `gclient` for connections, `gpair` for pairs, `gcmd` for the shared
-//! parts of programs, and `glockfile` for stored files. The crate uses `ganswer` for the server, and
-//! `ghello`, `grequest`, `glsreply` and `gfetchreply` for messages. The crate uses `ggrammar` and
-//! `gpkt` for the shared parts of messages, `ggraph` for plain packs, and `gname` for prefixes.
+//! parts of programs, and `glockfile` for stored files. The crate uses `ganswer` for the server,
+//! and `ghello`, `grequest`, `glsreply` and `gfetchreply` for messages. The crate uses `ggrammar`
+//! and `gpkt` for the shared parts of messages, `ggraph` for plain packs, and `gname` for prefixes.
 #![tactic(auto)]
 
 mod deadline;
