@@ -167,11 +167,14 @@ all_known first between last passed said wrote same some keeps old is =
     let wrote : Appends (Some old) (Some p.0) said = subst (λ (b : Option Bytes). Appends (Some old) b said) p.2 (subst (λ (f : Option Bytes). Appends f between said) is wrote) in
     (p.1, p.3 ∙ ap (λ (b : Bytes). Some (b ++ p.1)) wrote)
 
-longer : (a b : Bytes) → 0 < length a → 0 < length (a ++ b)
+pub longer_first : (a b : Bytes) → 0 < length a → 0 < length (a ++ b)
+longer_first a b some = omega (arith, some, length-append a b)
+
+pub longer : (a b : Bytes) → 0 < length b → 0 < length (a ++ b)
 longer a b some = omega (arith, some, length-append a b)
 
-longer_after : (a b : Bytes) → 0 < length b → 0 < length (a ++ b)
-longer_after a b some = omega (arith, some, length-append a b)
+pub four_bytes : (bytes : Bytes) → length bytes ≡ 4 → 0 < length bytes
+four_bytes bytes four = omega (arith, four)
 
 -- ---- whether a turn queued packets
 
@@ -187,8 +190,8 @@ counts_fails Memory old said new Untouched parts some = tt
 
 more_counts : {D : Type 0} (passed sent : Bool) (a b pending middle : Bytes) (begun sink after : D) → CountsSent (Ok passed) a middle (sink ≡ begun) → CountsSent (Ok sent) b pending (after ≡ sink)
     → CountsSent (Ok (if passed then true else sent)) (a ++ b) pending (after ≡ begun)
-more_counts true sent a b pending middle begun sink after h k = longer a b h
-more_counts false true a b pending middle begun sink after h k = longer_after a b k
+more_counts true sent a b pending middle begun sink after h k = longer_first a b h
+more_counts false true a b pending middle begun sink after h k = longer a b k
 more_counts false false a b pending middle begun sink after h k = (ap (λ (x : Bytes). x ++ b) h.0 ∙ k.0, k.1 ∙ h.1)
 
 fails_counts : {D : Type 0} (fault : TalkFault) (a b pending : Bytes) (begun sink after : D) → CountsSent (Err fault) b pending (after ≡ sink)
@@ -203,7 +206,7 @@ finish_counts true said pending begun sink after (Ok true) h untouched same some
 finish_counts true said pending begun sink after (Ok false) h untouched same some = absurd (cc same)
 finish_counts false said pending begun sink after (Ok true) h untouched same some = absurd (cc same)
 finish_counts false said pending begun sink after (Ok false) h untouched same some = (h.0, untouched refl ∙ h.1)
-finish_counts true said pending begun sink after (Err Io) h untouched same some = longer said pending h
+finish_counts true said pending begun sink after (Err Io) h untouched same some = longer_first said pending h
 finish_counts false said pending begun sink after (Err Io) h untouched same some = absurd (cc some)
 finish_counts passed said pending begun sink after (Err Memory) h untouched same some = tt
 
@@ -249,7 +252,7 @@ module _ {C A D : Type 0} (holds : C → Talk → Type 0) (turn : C → Turn) (c
       → HasSent (if passed then true else sent) (h.drives.said ++ k.sends.said) (record { old = contents begun; new = contents after })
       (record { old = passed_on begun; new = passed_on after }) (is_down after) (after ≡ begun)
   said_flushed passed true old mid new first between begun sink after h k all up =
-      let long = longer_after h.drives.said k.sends.said k.counts in
+      let long = longer h.drives.said k.sends.said k.counts in
       let known : IsSome (contents begun) → PassesAll (contents after) (record { old = passed_on begun; new = passed_on after }) =
       λ some known. all refl (known_now passed old mid first between begun sink h some known) in
       elim passed as (λ p. HasSent (if p then true else true) (h.drives.said ++ k.sends.said) (record { old = contents begun; new = contents after })
@@ -258,7 +261,7 @@ module _ {C A D : Type 0} (holds : C → Talk → Type 0) (turn : C → Turn) (c
         | false ↦ (long, known, up refl)
       ]
   said_flushed true false old mid new first between begun sink after h k all up = (
-    longer h.drives.said k.sends.said h.flushed.0,
+    longer_first h.drives.said k.sends.said h.flushed.0,
     subst (λ d. IsSome (contents begun) → PassesAll (contents d) (record { old = passed_on begun; new = passed_on d })) (sym k.counts.1) h.flushed.1,
     ap is_down k.counts.1 ∙ h.flushed.2,
   )

@@ -20,7 +20,7 @@ pub listen-requires-clause-held : goal.listen-requires-clause-held
 listen-requires-clause-held g c =
     held_after g.C.Conversation.holds g.C.Conversation.turn _ _ _ _ _ c.loop-connection.invariant.driven.drives.goes c.requires.held
 
-pub speak_turn-requires-clause-held : goal.speak-requires-clause-held
+pub speak_turn-requires-clause-held : goal.speak_turn-requires-clause-held
 speak_turn-requires-clause-held g c =
     held_after g.C.Conversation.holds g.C.Conversation.turn _ _ _ _ _ c.loop-connection.invariant.driven.drives.goes c.requires.held
 
