@@ -25,6 +25,7 @@ use Rattle.ganswer.specs.Servers.{Server}
 use Rattle.gtalk.specs.Connections.{PassesBytes}
 use Rattle.gtalk.specs.declared.fault.TalkFault.{TalkFault}
 use Rattle.gtalk.specs.declared.fault.TalkFault.TheVariants.{Io, Memory}
+use Rattle.gtalk.proofs.Driving.{four_bytes, longer, longer_first}
 use Rattle.gtalk.proofs.Moves.{canonical_joins}
 use Rattle.gserver.specs.Conversations.{Converses, HasEnded, Serves, advert_packets, talk, talk_bytes}
 use Rattle.gserver.specs.Exchanges.{Exchanges, IsDue, IsRefused, IsTurn, ReadsEmpty, ReadsTurn, Turn, reply_packets, reply as due_reply, refusal as due_refusal, ServesOne}
@@ -44,15 +45,6 @@ use Rattle.gserver.proofs.ErrorLemmas.{err_line}
 use Rattle.gserver.proofs.TalkLemmas.{replies_of, requests_more, requests_of, replies_more}
 
 -- ---- an answer has at least one byte
-
-longer : (a b : Bytes) → 0 < length b → 0 < length (a ++ b)
-longer a b some = omega (arith, some, length-append a b)
-
-longer_first : (a b : Bytes) → 0 < length a → 0 < length (a ++ b)
-longer_first a b some = omega (arith, some, length-append a b)
-
-four_bytes : (bytes : Bytes) → length bytes ≡ 4 → 0 < length bytes
-four_bytes bytes four = omega (arith, four)
 
 one_byte : (bytes : Bytes) → length bytes ≡ 1 → 0 < length bytes
 one_byte bytes one = omega (arith, one)
