@@ -179,7 +179,7 @@ pub record IsFresh {A K : Type 0} (side : ClientSide A K) : Type 0 where
 -- the side has received no message, and it holds the inputs of the conversation
 pub record BeginsAt {A K : Type 0} (start : Start A) (side : ClientSide A K) : Type 0 where
   pub fresh : IsFresh side
-  pub start : start_of_side side ≡ start
+  pub starts : start_of_side side ≡ start
 
 -- a client side that has received no message opens the dialogue without a packet
 abbrev pub OpensFresh : {A K : Type 0} → ClientSide A K → List Packet → Bool → Type 0

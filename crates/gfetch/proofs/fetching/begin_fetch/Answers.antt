@@ -11,6 +11,6 @@ returns-clause-begins g c =
     record {
       fresh = is_fresh repo plan.specs.now plan.limit plan.ends plan.options _ side.result same_repo
           side.ensures.session c.in-Ok.ensures.begins c.in-Ok.ensures.few side.ensures.unborn side.ensures.fault;
-      start = same_start repo plan.specs.now plan.limit plan.ends plan.options _ side.result same_repo
+      starts = same_start repo plan.specs.now plan.limit plan.ends plan.options _ side.result same_repo
           side.ensures.session c.in-Ok.ensures.begins;
     }
