@@ -48,14 +48,13 @@ where
         (all_input read lost) (output_of W.contents W.passed_on W.is_down devices.1 result.1.1)
         repo.new result.0) }
 {
-    match begin_fetch(repo, indexer, plan) {
-        Ok((side, room)) => {
-            let (driven, side, left) = talk(side, room, devices, far);
-            let fetched = end_fetch(side, driven, repo);
-            (fetched, left)
-        }
-        Err(fault) => (Err(fault), devices),
-    }
+    let (side, room) = match begin_fetch(repo, indexer, plan) {
+        Ok(begun) => begun,
+        Err(fault) => return (Err(fault), devices),
+    };
+    let (driven, side, left) = talk(side, room, devices, far);
+    let fetched = end_fetch(side, driven, repo);
+    (fetched, left)
 }
 
 // Runs the dialogue of a side that has received no message. Returns the side, the source and the

@@ -15,8 +15,8 @@ returns-in-Err g c = record {
   runs = c.in-Err.ensures.fails _ _ (record { read = refl; down = refl }) (record { written = refl; passed_on = refl; down = refl });
 }
 
-pub returns-in-Ok : goal.returns-in-Ok
-returns-in-Ok g c =
+pub returns : goal.returns
+returns g c =
     let indexes = g.K.KeepingIndexer.indexes in
     let fails = g.K.KeepingIndexer.index_fails in
     let h = c.talk-driven.ensures in
@@ -26,6 +26,6 @@ returns-in-Ok g c =
       received = h.received;
       consumed = h.consumed;
       lost = h.lost;
-      runs = subst (λ (s : Start g.row.A.Denot). FetchesOver indexes fails s input output c.end_fetch-fetched.new.repo c.end_fetch-fetched.result) c.in-Ok.ensures.begins.start
-          (c.end_fetch-fetched.ensures.fetches (start_of_side c.in-Ok.side) input output h.runs);
+      runs = subst (λ (s : Start g.row.A.Denot). FetchesOver indexes fails s input output c.end_fetch-fetched.new.repo c.end_fetch-fetched.result) c.in-Ok.ensures.begins.starts
+          (c.end_fetch-fetched.ensures.fetches (start_of_side c.in-Ok.begun.0) input output h.runs);
     }
