@@ -1,7 +1,7 @@
 -- The lines of refs: joining and splitting lists of lines, and the uniqueness of these lists.
 use Rattle.std.proofs.Common.{◌≡◌, ℕ, Bool, true, false, cond, List, [], ◌∷◌, ◌++◌, length, map, take, drop, All}
 use Rattle.std.proofs.Common.{Option, Some, None, refl, sym, ap, ap₂, ◌∙◌, subst, ◌+◌, ◌<◌, get_or, Result, Ok, Err}
-use Rattle.std.proofs.Common.{append_assoc, suc, add-one, drop-cons}
+use Rattle.std.proofs.Common.{append_assoc}
 use Rattle.std.specs.Prelude.{filter, OnOk}
 use Rattle.std.proofs.lemmas.List.{map-append, take-append-drop, take-map, drop-map, take_at, drop_at, take_more}
 use Rattle.std.proofs.lemmas.List.Elements.{All-append, All-cons, All-drop, All-head, All-nil, All-tail, All-take}
@@ -11,7 +11,7 @@ use Rattle.gdag.specs.Laws.{PeelsToOne}
 use Rattle.grefs.specs.RefLists.{RefList}
 use Rattle.grequest.specs.declared.flag.LsRefsFlag.TheVariants.{Peel}
 use Rattle.grequest.specs.Asked.{LsRefsAsked, ls_has}
-use Rattle.glsreply.specs.LsReplies.{LsReply, canonical_reply, ref_packet, unborn_packets}
+use Rattle.glsreply.specs.LsReplies.{LsReply}
 use Rattle.glsreply.specs.RefTexts.{RefLine}
 use Rattle.ganswer.specs.LsAnswers.{HasAttributes, IsPeeled, IsPeeledIf, ShowsLines, is_shown, name_and_id, symref_of}
 use Rattle.ganswer.specs.LsAnswers.{head_id, head_ref, unborn_of}
@@ -19,9 +19,6 @@ use Rattle.ganswer.specs.steps.Answers.{IsAnswering, IsNextRef}
 use Rattle.ganswer.specs.declared.fault.ServeFault.{ServeFault}
 use Rattle.ganswer.specs.Servers.{Server}
 use Rattle.gname.specs.Names.{head_name}
-use Rattle.ggrammar.specs.Endings.{ends_with}
-use Rattle.ggrammar.specs.declared.ends.Ends.{Ends}
-use Rattle.gpkt.specs.Packets.{Packet, Flush}
 
 module _ {A : Type 0} (server : Server A) (asked : LsRefsAsked) where
   pub shows_none : ShowsLines server asked [] []
@@ -166,44 +163,3 @@ module _ {A : Type 0} (server : Server A) (asked : LsRefsAsked) where
       let head = head_ref (head_id server.head server.refs) in
       let more : take (k + 1) server.refs ≡ take k server.refs ++ ref ∷ [] = take_more server.refs k ref inside ∙ ap (λ (r : List ℕ × List ℕ). take k server.refs ++ r ∷ []) (sym is) in
       subst (λ (refs : RefList). IsAnswering server asked refs reply) (append_assoc head (take k server.refs) (ref ∷ []) ∙ ap (λ (refs : RefList). head ++ refs) (sym more)) so_far
-
--- ---- writing the lines of refs
-
-abbrev pub ending : Ends → List Packet
-ending ends = Flush ∷ ends_with ends
-
-abbrev pub lines_and_ending : Ends → List RefLine → List Packet
-lines_and_ending ends lines = map ref_packet lines ++ ending ends
-
--- an answer consists of the packets of an unborn HEAD, if any, the lines, and the ending
-pub answer_parts : (ends : Ends) (reply : LsReply) (unborn : Option (List ℕ)) → reply.unborn ≡ unborn → canonical_reply ends reply ≡ unborn_packets unborn ++ lines_and_ending ends reply.lines
-unfolding canonical_reply
-answer_parts ends reply unborn is =
-    append_assoc (unborn_packets reply.unborn) (map ref_packet reply.lines) (ending ends) ∙ ap (λ (o : Option (List ℕ)). unborn_packets o ++ lines_and_ending ends reply.lines) is
-
--- the packets of lines that are split into two parts
-pub two_parts : (ends : Ends) (lines first second : List RefLine) → lines ≡ first ++ second → lines_and_ending ends lines ≡ map ref_packet first ++ lines_and_ending ends second
-two_parts ends lines first second is =
-    ap (lines_and_ending ends) is ∙ ap (λ (l : List Packet). l ++ ending ends) (map-append ref_packet first second) ∙ append_assoc (map ref_packet first) (map ref_packet second) (ending ends)
-
-pub mapped_parts : (lines first second : List RefLine) → lines ≡ first ++ second → map ref_packet lines ≡ map ref_packet first ++ map ref_packet second
-mapped_parts lines first second is = ap (map ref_packet) is ∙ map-append ref_packet first second
-
-module _ {A : Type 0} (server : Server A) (asked : LsRefsAsked) where
-  -- the lines of the refs from index `k` are the lines of the ref at `k`, followed by the lines of the later refs
-  pub split_at : (refs : RefList) (k : ℕ) (ref : List ℕ × List ℕ) (lines : List RefLine) → k < length refs → ref ≡ get_or refs k ref → ShowsLines server asked (drop k refs) lines
-      → Splits server asked (ref ∷ []) (drop (k + 1) refs) lines
-  split_at refs k ref lines inside is shows =
-      let rest : drop k refs ≡ ref ∷ drop (k + 1) refs = rw add-one (drop-cons refs k ref inside ∙ ap (λ (r : List ℕ × List ℕ). r ∷ drop (suc k) refs) (sym is)) in
-      split server asked (ref ∷ []) (drop (k + 1) refs) lines (subst (λ (r : RefList). ShowsLines server asked r lines) rest shows)
-
-  -- the packets of the refs from index `k` are the packets of the ref at `k`, followed by the packets of the later refs
-  pub next_line : PeelsToOne A → (refs : RefList) → refs ≡ server.refs → (k : ℕ) (ref : List ℕ × List ℕ) (lines : List RefLine) → k < length refs → ref ≡ get_or refs k ref
-      → ShowsLines server asked (drop k server.refs) lines → (line own : List RefLine) → line ≡ own → ShowsLines server asked (ref ∷ []) own
-      → (rest : List RefLine) × (map ref_packet lines ≡ map ref_packet line ++ map ref_packet rest) × ShowsLines server asked (drop (k + 1) server.refs) rest
-  next_line law refs same k ref lines inside is shows line own is_own has =
-      let here : k < length server.refs = subst (λ (r : RefList). k < length r) same inside in
-      let there : ref ≡ get_or server.refs k ref = is ∙ ap (λ (r : RefList). get_or r k ref) same in
-      let parts = split_at server.refs k ref lines here there shows in
-      let one : parts.first ≡ line = one_list server asked law (ref ∷ []) parts.first own parts.left has ∙ sym is_own in
-      (parts.second, mapped_parts lines line parts.second (parts.parts ∙ ap (λ (l : List RefLine). l ++ parts.second) one), parts.right)

@@ -25,8 +25,8 @@
 //! - [`Server::answer_fetch`] has the same contract, but accepts only fetch requests.
 //! - [`Server::begin_fetch`] returns the answer to a fetch request before the objects are packed
 //!   (`specs/BegunFetches.antt`). The caller can then pack the objects in parts.
-//! - [`Server::write_ls_answer`] writes the answer to an ls-refs request, or a prefix of the answer
-//!   if the sink fails.
+//! - [`Server::unborn`] and [`Server::line`] return the parts of an answer to ls-refs. The names
+//!   are borrowed from the server.
 //! - [`Server::advert`] fails only if memory runs out. The advertisement contains `agent=gitv2/1`,
 //!   `ls-refs=unborn`, `fetch`, and the format of the graph's ids.
 //! - By [`laws`], a client of the server's object format can read and accept the advertisement. A
@@ -45,8 +45,7 @@
 //!
 //! # Only tested
 //!
-//! The `conformance` cases test that calls succeed if enough memory is available, and that
-//! `write_ls_answer` allocates nothing.
+//! The `conformance` cases test that calls succeed if enough memory is available.
 //!
 //! # What the contracts do not rule out
 //!
@@ -75,7 +74,6 @@ mod ls;
 mod one_pack;
 mod peels;
 mod server;
-mod write;
 
 pub use crate::answer::Reply;
 pub use crate::fault::{BuildFault, ServeFault};

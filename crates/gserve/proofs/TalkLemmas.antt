@@ -28,12 +28,13 @@ use Rattle.ganswer.specs.Answers.{Answers, FetchRefuses, Reply, Fetch}
 use Rattle.ganswer.specs.Servers.{Server}
 use Rattle.ganswer.specs.declared.fault.ServeFault.{ServeFault}
 use Rattle.ganswer.specs.declared.fault.ServeFault.TheVariants as serve
-use Rattle.gserver.specs.Conversations.{CannotBegin, Converses, HasEnded, max_requests, talk_bytes}
+use Rattle.gserver.specs.Conversations.{CannotBegin, Converses, HasEnded, talk_bytes}
 use Rattle.gpkt.specs.Sending.{rest_of}
 use Rattle.gserver.specs.Exchanges.{Turn, IsRefused, ReadsEmpty, ReadsTurns, Declines, IsTurn, RefusesToAnswer}
 use Rattle.gserver.specs.Exchanges.{RefusesToRead}
 use Rattle.gserve.specs.Talks.{Stops, Talks, input_of_bytes, last_packets, EndsByOwnFault, HoldsNone, HoldsTurns, IsOwnFault}
 use Rattle.gserver.specs.Refusals.{err_packets}
+use Rattle.gserver.specs.Serving.{max_requests}
 use Rattle.gserve.specs.Laws.{ServingIsTalking}
 use Rattle.gserver.specs.declared.serving.End.{End}
 use Rattle.gserver.specs.declared.serving.End.TheVariants as end

@@ -10,8 +10,8 @@ use Rattle.gserve.specs.Talks.{Talks, EndsByOwnFault}
 use Rattle.gserver.specs.declared.serving.End.{End}
 use Rattle.gserver.specs.declared.serving.End.TheVariants as end
 
--- if the bytes of the source are known, and neither source nor sink fails, a connection is a conversation over these
--- bytes, with all output flushed
+-- Each connection is a conversation over the client's bytes, and all output is flushed. The law requires that the bytes
+-- of the source are known, and that neither the source nor the sink fails.
 abbrev pub ServingIsTalking : (A : Type 0) → Packs A → PackFails A → Type 0
 ServingIsTalking A packs fails =
     (server : Server A) (ends : Ends) (input : Input) (output : Output) (requests : ℕ) (ended : End) (bytes : Bytes)

@@ -3,6 +3,7 @@ pub use Rattle.gserver.specs.Exchanges
 pub use Rattle.gserver.specs.Conversations
 pub use Rattle.gserver.specs.Packings
 pub use Rattle.gserver.specs.GitConnections
+pub use Rattle.gserver.specs.Serving
 pub mod Laws
 pub mod Replies
 pub mod Talks

@@ -12,8 +12,9 @@ use Rattle.ganswer.specs.Servers.{Server}
 use Rattle.ganswer.specs.declared.fault.ServeFault.{ServeFault}
 use Rattle.ganswer.specs.declared.fault.ServeFault.TheVariants as serve
 use Rattle.gserver.specs.Exchanges.{Turn, IsRefused, ReadsEmpty, ReadsTurns}
-use Rattle.gserver.specs.Conversations.{CannotBegin, max_requests, talk_bytes}
+use Rattle.gserver.specs.Conversations.{CannotBegin, talk_bytes}
 use Rattle.gserver.specs.Refusals.{err_packets}
+use Rattle.gserver.specs.Serving.{max_requests}
 use Rattle.gserver.specs.declared.serving.End.{End}
 use Rattle.gserver.specs.declared.serving.End.TheVariants as end
 

@@ -5,7 +5,7 @@ ghost use Rattle.std.specs.Prelude.{◌≡◌};
 ghost use Rattle.gobject.specs.Packs.{MayPack};
 ghost use Rattle.gserve.specs.Laws.{ServingIsTalking, TalksAreOne};
 ghost use Rattle.gserver.specs.Refusals.{max_err_text};
-ghost use Rattle.gserver.specs.Conversations.{max_requests};
+ghost use Rattle.gserver.specs.Serving.{max_requests};
 
 use crate::{MAX_ERR_TEXT, MAX_REQUESTS};
 use ganswer::laws::answers_are_one;
@@ -29,9 +29,10 @@ pub fn serving_is_talking<A: Allocator + Copy, K: Packer<A>>()
     ensures { (packer : K) → ServingIsTalking A (MayPack (K.packs packer)) (K.pack_fails packer) }
 {}
 
-/// Proves that, with a faithful packer, a client's bytes determine the output and the end of the
-/// conversation, unless memory runs out or the packer fails. A packer that is not faithful may
-/// return different packs for the same objects, so the bytes of the pack may differ.
+/// Proves that a client's bytes determine the output and the end of the conversation. The law
+/// requires a faithful packer, and that memory does not run out and the packer does not fail. A
+/// packer that is not faithful may return different packs for the same objects, so the bytes of the
+/// pack may differ.
 pub fn talks_are_one<A: Allocator + Copy, K: Faithful<A>>(packer: &K)
     ensures { TalksAreOne A (MayPack (K.packs packer.now)) (K.pack_fails packer.now) }
 {

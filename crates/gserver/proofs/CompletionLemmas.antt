@@ -17,7 +17,7 @@ use Rattle.ganswer.specs.LsAnswers.{ShowsLines, all_refs, head_id, head_ref}
 use Rattle.ganswer.specs.Servers.{Server}
 use Rattle.ganswer.proofs.AnswerLemmas.{has_answer}
 use Rattle.ganswer.proofs.LsLemmas.{split}
-use Rattle.gserver.specs.ErrTexts.{text_packets}
+use Rattle.gserver.specs.ErrTexts.{error_packets}
 use Rattle.gserver.specs.Greetings.{SaysGreeting}
 use Rattle.gserver.specs.Listings.{SaysListing, SaysRefs}
 use Rattle.gserver.specs.PackSaying.{May}
@@ -110,7 +110,7 @@ module _ {R P : Type 0} (gives : R → P → Gives) (some : (packer : R) (parts 
 
   rest_completes : {A : Type 0} (left : Rest A R P) → Completes (SaysRest gives ends goes_on left)
   rest_completes rest.Nothing = ([], false, (refl, refl))
-  rest_completes (rest.Refusal text) = (text_packets text, false, (refl, refl))
+  rest_completes (rest.Refusal text) = (error_packets text, false, (refl, refl))
   rest_completes (rest.AckHeading acks pack) =
       first_completes (heading_packet ∷ acks_or_nak acks.ids pack) (SaysAfterAcks gives ends goes_on pack) (after_acks pack)
   rest_completes (rest.Ack acks at pack) =

@@ -34,10 +34,10 @@ use Rattle.ganswer.specs.declared.one_pack.Packing.TheVariants.{Unasked}
 use Rattle.gdialogue.specs.Sides.{HearsPacket, MayAnswer}
 use Rattle.gdialogue.specs.declared.side.Answer.{Answer}
 use Rattle.gdialogue.specs.declared.side.Answer.TheVariants as answer
-use Rattle.gserver.specs.ErrTexts.{max_text, text_packets}
+use Rattle.gserver.specs.ErrTexts.{max_text}
 use Rattle.gserver.specs.Exchanges.{Declines, reply_packets}
 use Rattle.gserver.specs.PackSaying.{SaysPack}
-use Rattle.gserver.specs.Refusals.{err_packets, err_text, max_err_text}
+use Rattle.gserver.specs.Refusals.{err_packets, max_err_text}
 use Rattle.gserver.specs.Replying.{may_of}
 use Rattle.gserver.specs.Saying.{EndsPack, SaysEnd, SaysFirst, SaysSection}
 use Rattle.gserver.specs.declared.lent.Lent.{Lent}
@@ -81,10 +81,6 @@ gives_some pack out given count takes few = record {
 
 pub whole_words : (text new : Bytes) → length text ≤ max_err_text → new ≡ take max_text ([] ++ text) → new ≡ text
 whole_words text new few is = is ∙ take_all max_text text (omega (arith, few))
-
-pub refusal_packets : (fault : ServeFault) (text : Bytes) → text ≡ err_text fault → text_packets text ≡ err_packets fault
-unfolding err_packets
-refusal_packets fault text is = ap text_packets is
 
 -- ---- the packets of a fetch reply
 

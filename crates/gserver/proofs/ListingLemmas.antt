@@ -1,22 +1,42 @@
 -- The reply to an ls-refs request, sent line by line.
-use Rattle.std.proofs.Common.{◌≡◌, ◌<◌, ◌≤◌, ◌+◌, ℕ, Bool, true, false, List, [], ◌∷◌, ◌++◌, length, map, drop, refl, sym, ap, ◌∙◌, subst, arith, length-drop}
-use Rattle.std.proofs.lemmas.List.{nil_from_length}
+use Rattle.std.proofs.Common.{◌≡◌, ◌<◌, ◌≤◌, ◌+◌, ℕ, Bool, true, false, List, [], ◌∷◌, ◌++◌, length, map, drop, Option, refl, sym, ap, ◌∙◌, subst, arith, append_assoc, length-drop}
+use Rattle.std.proofs.lemmas.List.{map-append, nil_from_length}
 use Rattle.gpkt.specs.Packets.{Bytes, Packet, Flush, ResponseEnd, canonical, canonical_all}
 use Rattle.ggrammar.specs.Endings.{ends_with}
 use Rattle.ggrammar.specs.declared.ends.Ends.{Ends}
 use Rattle.ggrammar.specs.declared.ends.Ends.TheVariants.{Plain, Response}
 use Rattle.grefs.specs.RefLists.{RefList}
 use Rattle.grequest.specs.Asked.{LsRefsAsked}
-use Rattle.glsreply.specs.LsReplies.{LsReply, ref_packet, unborn_packets}
+use Rattle.glsreply.specs.LsReplies.{LsReply, canonical_reply, ref_packet, unborn_packets}
+use Rattle.glsreply.specs.RefTexts.{RefLine}
 use Rattle.ganswer.specs.LsAnswers.{ShowsLines, head_id, head_ref, unborn_of}
 use Rattle.ganswer.specs.Servers.{Server}
-use Rattle.ganswer.proofs.LsLemmas.{answer_parts, shows_join, shows_none, two_parts}
+use Rattle.ganswer.proofs.LsLemmas.{shows_join, shows_none}
 use Rattle.gserver.specs.PackSaying.{May}
 use Rattle.gserver.specs.Listings.{SaysListing, SaysRefs, said_at_end, steps_of_listing}
 use Rattle.gserver.specs.declared.listing.NextLine.TheVariants as next
 use Rattle.gserver.specs.steps.RefLines.{SaysLines, SaysRefAt}
 use Rattle.gserver.specs.steps.Stepping.{Advances, PutsSome}
 use Rattle.gserver.proofs.StepLemmas.{last_one, puts_one}
+
+-- ---- the packets of a reply
+
+abbrev pub lines_and_ending : Ends → List RefLine → List Packet
+lines_and_ending ends lines = map ref_packet lines ++ Flush ∷ ends_with ends
+
+-- a reply consists of the packets of an unborn HEAD, if any, the lines, and the ending
+pub answer_parts : (ends : Ends) (reply : LsReply) (unborn : Option (List ℕ)) → reply.unborn ≡ unborn → canonical_reply ends reply ≡ unborn_packets unborn ++ lines_and_ending ends reply.lines
+unfolding canonical_reply
+answer_parts ends reply unborn is =
+    append_assoc (unborn_packets reply.unborn) (map ref_packet reply.lines) (Flush ∷ ends_with ends) ∙ ap (λ (o : Option (List ℕ)). unborn_packets o ++ lines_and_ending ends reply.lines) is
+
+-- the packets of lines that are split into two parts
+two_parts : (ends : Ends) (lines first second : List RefLine) → lines ≡ first ++ second → lines_and_ending ends lines ≡ map ref_packet first ++ lines_and_ending ends second
+two_parts ends lines first second is =
+    ap (lines_and_ending ends) is ∙ ap (λ (l : List Packet). l ++ Flush ∷ ends_with ends) (map-append ref_packet first second)
+    ∙ append_assoc (map ref_packet first) (map ref_packet second) (Flush ∷ ends_with ends)
+
+-- ---- the steps of a reply
 
 -- queuing the last packet of a reply
 ended : (goes_on : Bool) (packet : Packet) (old new : May) (steps_old steps_new : ℕ) (before out : Bytes)

@@ -22,15 +22,16 @@ use Rattle.gfetchreply.specs.FetchReplies.{Acks, FetchReply, Pack, Ready, ack_pa
 use Rattle.ganswer.specs.Answers.{Answers, Fetch, Ls as LsAnswered, Reply}
 use Rattle.ganswer.specs.OnePack.{OnePack, has_failed}
 use Rattle.ganswer.specs.Servers.{Server}
-use Rattle.ganswer.proofs.LsLemmas.{answer_parts}
 use Rattle.gtalk.specs.Connections.{PassesBytes}
 use Rattle.gtalk.specs.declared.fault.TalkFault.{TalkFault}
 use Rattle.gtalk.specs.declared.fault.TalkFault.TheVariants.{Io, Memory}
+use Rattle.gtalk.proofs.Driving.{four_bytes, longer, longer_first}
 use Rattle.gtalk.proofs.Moves.{canonical_joins}
-use Rattle.gserver.specs.Conversations.{Converses, HasEnded, Serves, advert_packets, max_requests, talk, talk_bytes}
+use Rattle.gserver.specs.Conversations.{Converses, HasEnded, Serves, advert_packets, talk, talk_bytes}
 use Rattle.gserver.specs.Exchanges.{Exchanges, IsDue, IsRefused, IsTurn, ReadsEmpty, ReadsTurn, Turn, reply_packets, reply as due_reply, refusal as due_refusal, ServesOne}
 use Rattle.gserver.specs.Packings.{ReportsLastPacking, ReportsPacking}
 use Rattle.gserver.specs.Refusals.{err_packets, err_text}
+use Rattle.gserver.specs.Serving.{max_requests}
 use Rattle.gserver.specs.declared.lent_side.Closing.{Closing}
 use Rattle.gserver.specs.declared.lent_side.LentSide.{LentSide}
 use Rattle.gserver.specs.declared.serving.End.{End}
@@ -39,19 +40,11 @@ use Rattle.gserver.specs.declared.serving.ExchangeEnd.{ExchangeEnd}
 use Rattle.gserver.specs.steps.Lending.{EndsTalk, HasFailed, HasSpoken, HasTalked, IsLast, Parts, connection_end, exchange_end, flushed_replies, parts_of}
 use Rattle.gserver.specs.steps.Lending as lending
 use Rattle.gserver.proofs.FetchLemmas.{acks_list, pack_list, ready_list}
-use Rattle.gserver.proofs.LentLemmas.{refusal_packets}
+use Rattle.gserver.proofs.ListingLemmas.{answer_parts}
+use Rattle.gserver.proofs.ErrorLemmas.{err_line}
 use Rattle.gserver.proofs.TalkLemmas.{replies_of, requests_more, requests_of, replies_more}
 
 -- ---- an answer has at least one byte
-
-longer : (a b : Bytes) → 0 < length b → 0 < length (a ++ b)
-longer a b some = omega (arith, some, length-append a b)
-
-longer_first : (a b : Bytes) → 0 < length a → 0 < length (a ++ b)
-longer_first a b some = omega (arith, some, length-append a b)
-
-four_bytes : (bytes : Bytes) → length bytes ≡ 4 → 0 < length bytes
-four_bytes bytes four = omega (arith, four)
 
 one_byte : (bytes : Bytes) → length bytes ≡ 1 → 0 < length bytes
 one_byte bytes one = omega (arith, one)
@@ -176,7 +169,7 @@ module _ {A K : Type 0} (once : K → OnePack K) (packs : K → Packs A) (fails 
   exchanged input output sent said (lending.IsLast.refused fault refuses is count closing packing) bytes spelt (inl wrote) =
       subst (Exchanged input output sent) (sym closing) (refuses, subst (Passes output) (spelt ∙ ap canonical_all is) wrote.1)
   exchanged input output sent said (lending.IsLast.refused fault refuses is count closing packing) bytes spelt (inr none) =
-      not_none (canonical_all (err_packets fault)) (some_of (err_packets fault) _ (refusal_packets fault (err_text fault) refl) (text_some (codes "ERR " ++ err_text fault) []))
+      not_none (canonical_all (err_packets fault)) (some_of (err_packets fault) _ (err_line (err_text fault) fault refl) (text_some (codes "ERR " ++ err_text fault) []))
       (sym (spelt ∙ ap canonical_all is) ∙ none.0)
 
   no_turns : (input : Input) (earlier reply : Bytes) (goes : Bool) → first.most ≡ 1 → (t : HasTalked once packs fails first input earlier reply goes now) → t.turns ≡ []

@@ -14,12 +14,9 @@ use Rattle.ganswer.specs.declared.fault.ServeFault.{ServeFault}
 use Rattle.ganswer.specs.declared.fault.ServeFault.TheVariants as serve
 use Rattle.gserver.specs.Exchanges.{Turn, IsDue, IsRefused, LacksBuffer, ReadsEmpty, ReadsEnd, ReadsTurns, reply_packets}
 use Rattle.gserver.specs.Refusals.{err_packets}
+use Rattle.gserver.specs.Serving.{max_requests}
 use Rattle.gserver.specs.declared.serving.End.{End}
 use Rattle.gserver.specs.declared.serving.End.TheVariants as end
-
--- the maximum number of requests of a connection, after which the server reads nothing more
-abbrev pub max_requests : ℕ
-max_requests = 4294967295
 
 -- the packets of the advertisement of a server with this object format
 unfoldable pub advert_packets : Format → List Packet

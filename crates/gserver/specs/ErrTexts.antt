@@ -8,5 +8,5 @@ abbrev pub max_text : ℕ
 max_text = 512
 
 -- the error packet with this text, as a list of packets
-abbrev pub text_packets : Bytes → List Packet
-text_packets text = text_packet (codes "ERR " ++ text) ∷ []
+abbrev pub error_packets : Bytes → List Packet
+error_packets text = text_packet (codes "ERR " ++ text) ∷ []

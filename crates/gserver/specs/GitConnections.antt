@@ -1,11 +1,10 @@
 -- A served connection of the `git://` transport, with its first line (gitprotocol-pack(5), "Git Transport").
-use Rattle.std.specs.Prelude.{◌≡◌, ◌≢◌, false, List, [], ◌∷◌, ◌++◌, codes, Option, Result, Ok, Err}
+use Rattle.std.specs.Prelude.{◌≡◌, ◌≢◌, false, List, codes, Option, Result, Ok, Err}
 use Rattle.gpkt.specs.Devices.{KeepsPassed}
 use Rattle.gpkt.specs.PacketReading.{ReadsPackets}
 use Rattle.gpkt.specs.Packets.{Bytes, Packet, canonical_all}
 use Rattle.gpkt.specs.Sending.{Input, Output, IsUp, Passes, SendsSome}
 use Rattle.ggrammar.specs.MessageReading.{IsReadFailure, ReadsRefused}
-use Rattle.ggrammar.specs.Texts.{text_packet}
 use Rattle.ggrammar.specs.declared.ends.Ends.{Ends}
 use Rattle.ggrammar.specs.declared.fault.MessageFault.{MessageFault}
 use Rattle.ghello.specs.Hello.{Hello, Says, brings, judge}
@@ -16,6 +15,7 @@ use Rattle.ganswer.specs.declared.fault.ServeFault.TheVariants as serve
 use Rattle.ganswer.specs.declared.one_pack.Packing.{Packing}
 use Rattle.ganswer.specs.declared.one_pack.Packing.TheVariants.{Unasked}
 use Rattle.gserver.specs.Conversations.{Serves}
+use Rattle.gserver.specs.ErrTexts.{error_packets}
 use Rattle.gserver.specs.Exchanges.{LacksBuffer}
 use Rattle.gserver.specs.Packings.{ReportsLastPacking}
 use Rattle.gserver.specs.Refusals.{err_packets}
@@ -51,10 +51,6 @@ abbrev pub AsksForAnother : Bytes → Input → Type 0
 AsksForAnother path input = (hello : Hello) × ReadsHello input hello × (hello.path ≢ path)
 
 -- ---- a packet instead of the advertisement
-
--- the packet that reports an error to the client
-abbrev pub error_packets : Bytes → List Packet
-error_packets text = text_packet (codes "ERR " ++ text) ∷ []
 
 -- the packet that the server sends to a client that requests another path
 abbrev pub elsewhere_packets : List Packet

@@ -9,8 +9,8 @@ use Rattle.gfetchreply.specs.FetchReplies.{data_packet, pieces}
 abbrev pub May : Type 1
 May = List Packet → Bool → Type 0
 
--- the packets that carry a pack on side band 1; if the packer fails, the packets carry a prefix of the bytes that the
--- packer returned
+-- The packets that carry a pack on side band 1. If the packer fails, the packets carry a prefix of the bytes that the
+-- packer returned.
 pub record SaysPack (gives : Gives) (packets : List Packet) (end : Option PackFault) : Type 0 where
   pub sent : Bytes
   pub lost : Bytes

@@ -1,11 +1,11 @@
 -- The error packet that reports a refusal to the client (gitprotocol-pack(5), "error-line").
-use Rattle.std.specs.Prelude.{ℕ, List, [], ◌∷◌, ◌++◌, codes}
+use Rattle.std.specs.Prelude.{ℕ, List, [], ◌++◌, codes}
 use Rattle.gname.specs.Ids.{id_text}
 use Rattle.gpkt.specs.Packets.{Bytes, Packet}
-use Rattle.ggrammar.specs.Texts.{text_packet}
 use Rattle.ganswer.specs.Faults.{serve_fault_row}
 use Rattle.ganswer.specs.declared.fault.ServeFault.{ServeFault}
 use Rattle.ganswer.specs.declared.fault.ServeFault.TheVariants as serve
+use Rattle.gserver.specs.ErrTexts.{error_packets}
 
 -- the maximum length of a refusal's text, in bytes
 abbrev pub max_err_text : ℕ
@@ -22,4 +22,4 @@ err_text fault = codes "upload-pack: " ++ (serve_fault_row fault).phrase ++ deta
 
 -- the error packet of a refusal
 unfoldable pub err_packets : ServeFault → List Packet
-err_packets fault = text_packet (codes "ERR " ++ err_text fault) ∷ []
+err_packets fault = error_packets (err_text fault)

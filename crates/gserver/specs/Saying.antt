@@ -10,7 +10,7 @@ use Rattle.ggrammar.specs.Texts.{text_packet}
 use Rattle.ggrammar.specs.Endings.{ends_with}
 use Rattle.ggrammar.specs.declared.ends.Ends.{Ends}
 use Rattle.gfetchreply.specs.FetchReplies.{ack_packet, heading_packet, nak_if_none, ready_packet}
-use Rattle.gserver.specs.ErrTexts.{text_packets}
+use Rattle.gserver.specs.ErrTexts.{error_packets}
 use Rattle.gserver.specs.PackSaying.{May, SaysPack}
 use Rattle.gserver.specs.declared.said.Rest.{Rest}
 use Rattle.gserver.specs.declared.said.Rest.TheVariants as rest
@@ -30,8 +30,8 @@ module _ (ends : Ends) (goes_on : Bool) where
   abbrev pub SaysEnd : May
   SaysEnd said goes = (said ≡ Flush ∷ ends_with ends) × (goes ≡ goes_on)
 
-  -- the packets of a pack and the end of the reply; if the packer fails, a packet that reports the fault replaces the
-  -- end of the reply
+  -- The packets of a pack and the end of the reply. If the packer fails, a packet that reports the fault replaces the
+  -- end of the reply.
   abbrev pub EndsPack : List Packet → Option PackFault → May
   EndsPack packets None said goes = (said ≡ packets ++ Flush ∷ ends_with ends) × (goes ≡ goes_on)
   EndsPack packets (Some fault) said goes = (said ≡ packets ++ fatal_packet fault ∷ []) × (goes ≡ false)
@@ -63,7 +63,7 @@ module _ {A R P : Type 0} (gives : R → P → Gives) (ends : Ends) (goes_on : B
   -- the packets from this state of a reply to the end of the reply
   abbrev pub SaysRest : Rest A R P → May
   SaysRest rest.Nothing said goes = (said ≡ []) × (goes ≡ false)
-  SaysRest (rest.Refusal text) said goes = (said ≡ text_packets text) × (goes ≡ false)
+  SaysRest (rest.Refusal text) said goes = (said ≡ error_packets text) × (goes ≡ false)
   SaysRest (rest.AckHeading acks pack) said goes =
       SaysFirst (heading_packet ∷ acks_or_nak acks.ids pack) (SaysAfterAcks gives ends goes_on pack) said goes
   SaysRest (rest.Ack acks at pack) said goes =

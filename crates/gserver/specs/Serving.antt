@@ -19,14 +19,15 @@ use Rattle.ganswer.specs.Servers.{Server}
 use Rattle.ganswer.specs.declared.fault.ServeFault.{ServeFault}
 use Rattle.ganswer.specs.declared.fault.ServeFault.TheVariants as serve
 use Rattle.gdialogue.specs.Sides.{SaysNothing}
-use Rattle.gserver.specs.ErrTexts.{text_packets}
+use Rattle.gserver.specs.ErrTexts.{error_packets}
 use Rattle.gserver.specs.Fetching.{SaysFetch}
 use Rattle.gserver.specs.Heard.{brings_of, holds_of, judge_of}
 use Rattle.gserver.specs.declared.heard.Heard.{Heard}
 use Rattle.gserver.specs.Listings.{SaysLsAnswer}
 use Rattle.gserver.specs.declared.side.ServerSide.{ServerSide}
 
--- the maximum of the count of requests; after this number of requests, a connection accepts only one more
+-- The maximum of the count of requests. After this number of requests, a `ServerSide` accepts only one more request, and
+-- `serve` reads nothing more.
 abbrev pub max_requests : ℕ
 max_requests = 4294967295
 
@@ -43,7 +44,7 @@ messages_of (Some repo) requests = max_requests - requests
 pub record Refuses (Why : Bytes → Type 0) (said : List Packet) (goes : Bool) : Type 0 where
   pub text : Bytes
   pub why : Why text
-  pub all : said ≡ text_packets text
+  pub all : said ≡ error_packets text
   pub ended : goes ≡ false
 
 -- the count of requests after a new request; an empty request is not counted, and the count stops at `max_requests`
@@ -187,7 +188,7 @@ pub record RefusesMessage {A H R : Type 0} (says : H → ServeFault → Bytes �
   pub requests : new.requests ≡ old.requests
   pub text : Bytes
   pub words : IsFault says old.host.now (λ it. it ≡ serve.Request fault) new.fault text
-  pub all : said ≡ text_packets text
+  pub all : said ≡ error_packets text
 
 -- whether the grammar of the next message (the first line or a request) stores the contents of a packet
 abbrev pub side_brings : {R : Type 0} → Option R → List Packet → Packet → Bool

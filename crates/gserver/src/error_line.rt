@@ -3,9 +3,9 @@
 ghost use Rattle.std.specs.Prelude.{◌≡◌, ◌≤◌, false, length};
 ghost use Rattle.gpkt.specs.Sending.{output_of};
 ghost use Rattle.ggrammar.specs.Writing.{WritesPackets};
+ghost use Rattle.gserver.specs.ErrTexts.{error_packets};
 ghost use Rattle.gserver.specs.Refusals.{err_packets, max_err_text};
 ghost use Rattle.gserver.specs.steps.Connections.{PassesPackets};
-ghost use Rattle.gserver.specs.GitConnections.{error_packets};
 
 use crate::refusal::{MAX_ERR_TEXT, err_text};
 use ganswer::ServeFault;

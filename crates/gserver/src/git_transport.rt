@@ -88,7 +88,7 @@ pub fn serve_git<S: Source, W: Sink, A: Allocator + Copy, K: Packer<A>>(
 /// Fails with fault 28 (out of memory) if there is no memory for the reader's buffer, and then
 /// reads nothing. Fails with a fault of the packet reader (20 to 24) if the bytes are not a valid
 /// packet or the source fails. Fails with `Ended` (54) if the input ends before the packet. Fails
-/// with `UnexpectedFrame` (41) or `BadText` (42) if the packet is not a first line, and with
+/// with `UnexpectedFrame` (41) or `BadText` (42) if the packet is not a first line. Fails with
 /// `Memory` (53) if memory runs out while storing the line.
 pub fn hear<S: Source, A: Allocator + Copy>(
     source: &mut S,

@@ -1,84 +1,97 @@
-//! The server's end of Git's fetch service, protocol version 2 (gitprotocol-v2(5)). A [`ServerSide`]
-//! is a value that does no I/O. The functions [`serve`], [`serve_one`] and [`serve_git`] serve a
-//! connection over a blocking source and a blocking sink.
+//! The server's end of Git's fetch service, protocol version 2 (gitprotocol-v2(5)). A
+//! [`ServerSide`] is a value that does no I/O. The functions [`serve`], [`serve_one`] and
+//! [`serve_git`] read from a blocking source and write to a blocking sink.
 //!
 //! A [`ServerSide`] receives the first line of a connection, and then one request after another. A
-//! [`Host`] owns the repositories. Each repository is a [`ServedRepository`] that all connections
-//! share. The server side sends each [`ServerReply`] packet by packet. A packer returns its pack in
-//! parts, so a whole pack is never in memory.
+//! [`Host`], which all connections share, finds and opens the repositories. A [`ServedRepository`]
+//! is a handle to a repository. The server side sends each [`ServerReply`] packet by packet. A
+//! packer returns its pack in parts, so the server side does not need the whole pack in memory.
 //!
 //! # Proved
+//!
+//! For a [`ServerSide`]:
 //!
 //! - The reply to the first line is the advertisement of a repository that the host's `finds`
 //!   allows for this line. The server side then serves that repository (`Greets` in
 //!   `specs/Serving.antt`).
-//! - The reply to an ls-refs request is the canonical encoding of a reply of `ganswer`
+//! - The reply to an ls-refs request is the canonical encoding of an answer that `ganswer` allows
 //!   (`SaysLsAnswer` in `specs/Listings.antt`).
 //! - For each fetch request the host opens the repository again, and the server side answers from
 //!   the opened repository (`SendsFrom`, and `SaysFetch` in `specs/Fetching.antt`). The packer
-//!   produces the pack, which is sent in packets of the maximum size.
+//!   produces the pack. All packets of the pack except the last have the maximum size.
 //! - If a packer fails while a pack is sent, the last packet carries the text of the fault on side
 //!   band 3. The packer's contract permits this fault for the objects of the pack. The connection
 //!   then ends.
 //! - An empty request gets no reply, and ends the connection.
-//! - An error packet with the host's text can replace a reply. The connection then ends. The server
-//!   side rejects a first line only if there is not enough memory, or if the host finds no
-//!   repository for the line (`CannotGreet`). The server side rejects a request only if there is
-//!   not enough memory, if the repository can't answer the request, or if the host can't open the
-//!   repository (`CannotAnswer`). If the grammar rejects a message, the server side sends the
-//!   host's text for that fault (`RefusesMessage`).
-//! - The server side stores the fault with which it refused a message ([`ServerSide::fault`]). No
-//!   fault is stored if the host can't find or open a repository. While the connection accepts
-//!   messages, no fault is stored.
+//! - An error packet with the host's text can replace a reply. The connection then ends. The
+//!   server side rejects a valid first line only if memory runs out, or if the host finds no
+//!   repository for it (`CannotGreet`). It rejects a valid request only if memory runs out, the
+//!   repository can't answer the request, or the host can't open the repository (`CannotAnswer`).
+//!   If the grammar rejects a message, the server side sends the host's text for that fault
+//!   (`RefusesMessage`).
+//! - The server side stores the fault for which it sends an error packet ([`ServerSide::fault`]).
+//!   While the connection accepts messages, no fault is stored.
 //! - A connection begins with no repository, no request and no fault (`OpensFresh`).
 //!   [`ServerSide::within`] receives the host, the limits on each request, and whether each reply
 //!   ends with a response-end packet. The server side uses these values for all messages.
-//!   [`ServerSide::new`] gives the default limits of 64 prefixes, 1,024 wants and 4,096 haves. Each
-//!   ls-refs or fetch request is counted. A connection ends only after an error packet, an empty
-//!   request, a failed pack or the last permitted request.
+//!   [`ServerSide::new`] gives the default limits of 64 prefixes, 1,024 wants and 4,096 haves.
+//!   Each ls-refs or fetch request is counted. A connection ends only after an error packet, an
+//!   empty request, a failed pack or the last permitted request.
 //! - [`ServerSide::repo`], [`ServerSide::limits`], [`ServerSide::requests`] and
 //!   [`ServerSide::fault`] return the state of the server side.
-//! - Each call to [`Reply::say`](gdialogue::Reply) decreases the number of remaining steps, so
-//!   every reply ends. A connection ends after at most 4,294,967,296 requests.
+//! - Each call to [`Reply::say`](gdialogue::Reply) that does not complete the reply decreases the
+//!   number of remaining calls, so every reply ends. A connection ends after at most 4,294,967,296
+//!   requests.
 //! - An [`ErrText`] stores the first bytes of a text, as many as fit.
-//! - [`serve`] serves a whole connection over a blocking source and a blocking sink
-//!   (`specs/Conversations.antt`). It writes the advertisement, and then runs a dialogue with the
-//!   borrowed server and the borrowed packer. No first line is read. Requests have the default
-//!   limits. While a request is read, nothing after its last packet is read.
+//!
+//! For [`serve`], [`serve_one`] and [`serve_git`]:
+//!
+//! - [`serve`] serves a whole connection (`specs/Conversations.antt`). It writes the
+//!   advertisement, and then answers one request after another. The server and the packer are
+//!   borrowed. No first line is read. Requests have the default limits. While a request is read,
+//!   nothing after its last packet is read.
 //! - The advertisement and each reply of [`serve`] are flushed before anything more is read. The
 //!   field [`Served::requests`](Served) is the number of replies.
-//! - [`serve`] ends if the client sends a lone flush packet, the input ends before a request, or the
-//!   sink fails. It also ends after [`MAX_REQUESTS`] requests. The first refused request ends the
-//!   connection with an error packet. If the sink fails, a prefix of the next message was written.
-//!   Once an ls-refs request is read, it is never refused.
-//! - If the packer fails, [`serve`] reports its fault before any packet of the reply. The packer is
-//!   a [`OnePack`], which records the packer's last result (`specs/Packings.antt`). Any other fault
-//!   is reported only if the packer was not asked for a pack for the last request.
+//! - [`serve`] ends if the client sends a lone flush packet, the input ends before a request, or
+//!   the sink fails. It also ends after [`MAX_REQUESTS`] requests. The first refused request ends
+//!   the connection with an error packet. If the sink fails, a prefix of the next message was
+//!   written. Once an ls-refs request is read, it is never refused.
+//! - If the packer fails, [`serve`] reports its fault before any packet of the reply. The packer
+//!   is a [`OnePack`], which records the packer's last result (`specs/Packings.antt`). Any other
+//!   fault is reported only if the packer was not asked for a pack for the last request.
 //! - If memory runs out for the buffers or for the advertisement, [`serve`] writes an error packet
 //!   in place of the advertisement, and reads nothing.
 //! - [`serve_one`] has the same contract for one request, without an advertisement
 //!   (`specs/Exchanges.antt`).
 //! - [`serve_git`] first reads the first line of a `git://` connection
-//!   (`specs/GitConnections.antt`). If the line names the served path, byte for byte, the connection
-//!   continues as for [`serve`]. Otherwise an error packet replaces the advertisement, and nothing
-//!   after the line is read. The function [`hear`] reads only a first line.
+//!   (`specs/GitConnections.antt`). If the line names the served path, byte for byte, the
+//!   connection continues as for [`serve`]. Otherwise an error packet replaces the advertisement,
+//!   and nothing after the line is read. The function [`hear`] reads only a first line.
 //! - For each way in which a connection ends, the contract states whether the source and the sink
 //!   have failed.
 //! - [`err_text`] writes the text of a fault, at most 128 bytes.
-//! - No call panics, overflows or reads out of bounds. Each call returns if the calls to its source,
-//!   its sink, its host and its packer return.
+//!
+//! No call of this crate panics, overflows or reads out of bounds. Each call returns if the calls
+//! to its source, its sink, its host and its packer return.
 //!
 //! # What the contracts do not rule out
 //!
+//! For a [`ServerSide`]:
+//!
 //! - No contract restricts the results of a host, except the host's own `finds`, `opens` and
-//!   `says`. By default, these members allow every result. In that case, no contract requires the
-//!   server side to call the host.
-//! - An error packet for a failed allocation may replace any reply. The connection then ends.
+//!   `says`. By default, these members allow every result. With the defaults, no contract requires
+//!   the server side to call the host.
+//! - An error packet for a failed allocation may replace the reply to a first line, an ls-refs
+//!   request or a fetch request. The connection then ends.
+//! - If the host can't find or open a repository, no contract states which fault is stored. The
+//!   same holds after a failed pack.
 //! - A call may queue few packets, and may take as long as the packer or the host needs.
-//! - No contract restricts the pack data that the server side sends before a packet on side band 3.
-//! - [`serve`], [`serve_one`] and [`serve_git`] store the whole pack of a reply. They may report out
-//!   of memory even if there is enough memory. At the start, they may report fault 28 or fault 64
-//!   for out of memory.
+//! - No contract restricts the pack data that is sent before a packet on side band 3.
+//!
+//! For [`serve`], [`serve_one`] and [`serve_git`]:
+//!
+//! - The calls store the whole pack of a reply. They may report out of memory even if there is
+//!   enough memory. At its start, [`serve`] may report fault 28 or fault 64 for out of memory.
 //! - If the bytes of a source or of a sink are not known, no contract states the bytes read or
 //!   written. If the sink fails, no contract states the length of the written prefix.
 //!

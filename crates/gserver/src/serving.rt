@@ -95,8 +95,8 @@ pub fn serve_one<S: Source, W: Sink, A: Allocator + Copy, K: Packer<A>>(
 /// to each (gitprotocol-v2(5), "Capability Advertisement", "Command Request"). The call flushes
 /// after the advertisement, after each reply and after an error packet. The server is unchanged.
 ///
-/// The connection ends if the client sends a lone flush packet, if the input ends before a request,
-/// if a request is refused, or if the sink fails. The connection also ends after [`MAX_REQUESTS`]
+/// The connection ends if the client sends a lone flush packet, or if the input ends before a
+/// request. It also ends if a request is refused, if the sink fails, or after [`MAX_REQUESTS`]
 /// replies. After a refused request, the server writes an error packet. If memory runs out at the
 /// start, the server only writes an error packet that reports out of memory, and reads nothing.
 ///

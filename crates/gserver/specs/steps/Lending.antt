@@ -190,8 +190,8 @@ pub record RefusesLent {A K : Type 0} (once : K → OnePack K) (old : LentSide A
 -- ---- the end of a dialogue
 
 module _ {A K : Type 0} (once : K → OnePack K) (packs : K → Packs A) (fails : K → PackFails A) where
-  -- how the last message ends, given the rest of the input, the packets of the last answer, whether the dialogue
-  -- continues after it, and the state of the side
+  -- How the last message ends. The arguments are the rest of the input, the packets of the last answer, whether the
+  -- dialogue then continues, and the state of the side.
   pub data IsLast (parts : Parts A K) (rest : Input) (said : List Packet) (goes : Bool) (now : LentSide A K) : Type 0 where
     turned : (turn : Turn) → ReadsTurn parts.server (packs parts.packer) rest turn → said ≡ reply_packets parts.ends turn.answer
         → goes ≡ nat_lt now.requests now.most → now.requests ≡ now.earlier + 1 → now.closing ≡ None

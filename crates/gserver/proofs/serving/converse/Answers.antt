@@ -2,8 +2,8 @@ use Rattle.std.proofs.Common.{◌∙◌, refl, sym, ap, subst, arith}
 use Rattle.gpkt.specs.Sending.{input_of, output_of}
 use Rattle.gpkt.specs.declared.fault.PacketFault.TheVariants.{Memory as NoBuffer}
 use Rattle.ganswer.specs.declared.fault.ServeFault.TheVariants as serve
-use Rattle.gserver.specs.Conversations.{max_requests}
 use Rattle.gserver.specs.Packings.{ReportsLastPacking}
+use Rattle.gserver.specs.Serving.{max_requests}
 use Rattle.gserver.proofs.OpeningLemmas.{first_packing, is_fresh, not_advertised, refused_first}
 use Rattle.gserver.proofs.ServingLemmas.{keeps_packer, reports_last, serves_rest}
 use Rattle.gserver.proofs.TalkLemmas.{talk_in_place}
