@@ -9,8 +9,8 @@ use Rattle.gfetch.specs.Conversations.{FailsToSend}
 abbrev pub hello_bytes : Hello → Bytes
 hello_bytes hello = canonical_all (canonical_hello hello)
 
--- the part of the output up to a moment at which the sink has not failed; `written` and `passed` are the written and
--- the flushed bytes at that moment
+-- The part of the output up to a moment at which the sink has not failed. `written` and `passed` are the written and
+-- the flushed bytes at that moment.
 abbrev pub head_of : Output → Option Bytes → Option Bytes → Output
 head_of output written passed = record {
   written = record { old = output.written.old; new = written };
@@ -19,8 +19,8 @@ head_of output written passed = record {
   is_down = false;
 }
 
--- the part of the output from a moment at which the sink has not failed; `written` and `passed` are the written and the
--- flushed bytes at that moment
+-- The part of the output from a moment at which the sink has not failed. `written` and `passed` are the written and
+-- the flushed bytes at that moment.
 abbrev pub tail_of : Output → Option Bytes → Option Bytes → Output
 tail_of output written passed = record {
   written = record { old = written; new = output.written.new };

@@ -4,7 +4,7 @@ pub use Rattle.gfetch.specs.Conversations
 pub mod Greetings
 pub mod GitFetches
 pub mod Listings
-pub mod Laws
+pub use Rattle.gfetch.specs.Laws
 pub use Rattle.gfetch.specs.Faults
 pub use Rattle.gsession.specs.Sessions
 pub use Rattle.gsession.specs.Asking

@@ -10,11 +10,10 @@ use gpkt::laws::writes_join;
 use gpkt::{PacketWriter, Sink, WriteFault};
 use std::alloc::Allocator;
 
-/// Writes and flushes the first line. Allocates nothing.
-pub(crate) fn greet<W: Sink, A: Allocator + Copy>(
-    hello: &Hello<A>,
-    sink: &mut W,
-) -> Result<(), WriteFault>
+/// Writes and flushes the first line (gitprotocol-pack(5), "Git Transport"). Allocates nothing.
+///
+/// Fails if the sink fails. The sink has then received a prefix of the line.
+pub fn greet<W: Sink, A: Allocator + Copy>(hello: &Hello<A>, sink: &mut W) -> Result<(), WriteFault>
     ensures greets { HasPassed (output_of W.contents W.passed_on W.is_down sink.old sink.new)
         result (hello_bytes hello.now) }
     ensures loans { W.loans sink.new ≡ W.loans sink.old }

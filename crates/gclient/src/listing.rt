@@ -12,21 +12,11 @@ use gpkt::{Sink, Source};
 use grequest::LsRefsRequest;
 use std::alloc::Allocator;
 
-/// Lists the refs of a server (gitprotocol-pack(5), "Git Transport"; gitprotocol-v2(5), "ls-refs").
-/// Writes the first line, reads the advertisement, requests the refs, reads the reply, and ends the
-/// conversation with a lone flush packet. Flushes all output before each read, and reads nothing
-/// after the reply.
+/// Lists the refs of a server (gitprotocol-pack(5), "Git Transport"). Writes and flushes the first
+/// line, which names the requested path, and continues like [`list_over`].
 ///
-/// The ids have the object format that the advertisement names. The request has `unborn` exactly
-/// when the server offers to report an unborn `HEAD`, whether or not `asked` has `unborn`. The
-/// limits of `asked` have no effect.
-///
-/// Fails with `NoBuffer` (28), and reads nothing, if there is not enough memory for the reader's
-/// buffer. Fails with `Message` if the advertisement or the reply is malformed. The faults of an
-/// advertisement are 20 to 25, 41, 42, 48, 49, 53 and 54. A reply may also have an invalid id (46)
-/// or an invalid ref name (47). Fails with `Message` for an unsupported server: `UnknownCommand`
-/// (43) or `Format` (52). Fails with `WriteFailed` (27) if the sink fails. The sink has then
-/// received a prefix of the output.
+/// Fails with `WriteFailed` (27) if the sink fails before the first line is flushed. The client
+/// then reads nothing. Otherwise fails like `list_over`.
 pub fn list_git<S: Source, W: Sink, A: Allocator + Copy>(
     hello: &Hello<A>,
     source: &mut S,

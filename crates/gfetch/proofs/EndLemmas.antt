@@ -36,6 +36,7 @@ use Rattle.gtalk.specs.declared.conversation.Stop.{Stop}
 use Rattle.gtalk.specs.Connections.{IsDownBy}
 use Rattle.gtalk.specs.declared.fault.TalkFault.{TalkFault}
 use Rattle.gtalk.specs.declared.fault.TalkFault.TheVariants.{Io, Memory}
+use Rattle.gtalk.proofs.Driving.{four_bytes}
 use Rattle.gtalk.proofs.Moves.{canonical_joins}
 use Rattle.gdialogue.specs.Dialogues.{Answered, HasReplied, IsRefused}
 use Rattle.gdialogue.specs.Dialogues as dialogue
@@ -52,7 +53,7 @@ use Rattle.gfetch.specs.Turns.{AreTurns, ClientState, FitsSource, IsTurn, IsUnta
 use Rattle.gfetch.specs.declared.side.ClientSide.{ClientSide}
 use Rattle.gfetch.specs.declared.fault.FetchFault.{FetchFault}
 use Rattle.gfetch.specs.declared.fault.FetchFault.TheVariants as fetch_fault
-use Rattle.gfetch.specs.steps.Ending.{EndsAs, EndsTalk}
+use Rattle.gfetch.specs.Endings.{EndsAs, EndsTalk}
 use Rattle.gfetch.proofs.SideLemmas.{objects_stay, objects_then}
 use Rattle.gfetch.proofs.TalkLemmas.{begun_is, dialogues_are_turns, format_is, format_takes, heard_is, not_both, pending_is, takes_same, turn_more, waits}
 
@@ -69,9 +70,6 @@ longer a b some = omega (arith, some, length-append a b)
 
 pub longer_first : (a b : Bytes) → 0 < length a → 0 < length (a ++ b)
 longer_first a b some = omega (arith, some, length-append a b)
-
-four_bytes : (bytes : Bytes) → length bytes ≡ 4 → 0 < length bytes
-four_bytes bytes four = omega (arith, four)
 
 delim_some : (first : Packet) (front back : List Packet) → 0 < length (canonical_all (first ∷ (front ++ Delim ∷ back)))
 delim_some first front back =

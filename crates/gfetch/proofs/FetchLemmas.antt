@@ -29,7 +29,8 @@ use Rattle.gfetch.specs.declared.fault.FetchFault.TheVariants as fetch
 use Rattle.gfetch.specs.declared.fetched.Fetched.{Fetched}
 use Rattle.gfetch.specs.declared.side.ClientSide.{ClientSide}
 use Rattle.gfetch.proofs.KeptLemmas.{begins_on, kept_still, turns_began, turns_kept}
-use Rattle.gfetch.specs.steps.Ending.{EndsAs, EndsTalk, HasClosed, SettlesFetch}
+use Rattle.gfetch.specs.Endings.{EndsAs, EndsTalk, HasClosed}
+use Rattle.gfetch.specs.steps.Ending.{SettlesFetch}
 
 -- a result that is an error with this value
 pub err_of : {T E : Type 0} (value : E) (result : Result T E) → IsErrAnd result (λ e. e ≡ value) → result ≡ Err value

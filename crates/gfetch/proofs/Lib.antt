@@ -6,3 +6,4 @@ pub mod EndLemmas
 pub mod KeptLemmas
 pub mod FetchLemmas
 pub mod ListingLemmas
+pub mod CountLemmas

@@ -1,5 +1,5 @@
 -- A client's conversation with a server, from the advertisement to the update of the local refs (gitprotocol-v2(5),
--- "Initial Client Request" and "Command Request"). The definitions state which bytes the client writes for the bytes
+-- "Capability Advertisement" and "Command Request"). The definitions state which bytes the client writes for the bytes
 -- that it reads.
 use Rattle.std.specs.Prelude.{◌≡◌, ◌⊎◌, ◌≤◌, false, List, [], ◌∷◌, ◌++◌, length, Option, Some, Result, Ok, Err}
 use Rattle.std.specs.List.{flat_map}
@@ -160,6 +160,11 @@ module _ {A : Type 0} (indexes : Indexes A) (index_fails : IndexFails) (start : 
         → last.session.stage ≡ Settling → Passes output (talk_bytes talk)
         → SettlesAsks last.repo last.session.asks new (Err cause)
         → Fails input output new (fetch.Client (client.Repo cause))
+
+  -- the conversation fails with this fault before the client reads or writes a byte
+  abbrev pub FailsAtStart : RepoState A → FetchFault A → Type 0
+  FailsAtStart new fault =
+      (input : Input) (output : Output) → IsUnread input → IsUnwritten output → Fails input output new fault
 
   -- the result and the effects of a conversation
   abbrev pub FetchesOver : Input → Output → RepoState A → Result (Fetched A) (FetchFault A) → Type 0

@@ -8,8 +8,8 @@ use Rattle.gsession.specs.Faults.{client_fault_row, client_fault_text}
 use Rattle.gfetch.specs.declared.fault.FetchFault.{FetchFault}
 use Rattle.gfetch.specs.declared.fault.FetchFault.TheVariants.{Client, NoBuffer, WriteFailed}
 
--- the number and the name of each fault of a conversation; a fault of the session or of a message keeps the number and
--- the name of its own table
+-- The number and the name of each fault of a conversation. A fault of the session or of a message has the row of its
+-- own table.
 abbrev pub fetch_fault_row : {A : Type 0} → FetchFault A → FaultRow
 fetch_fault_row (Client fault) = client_fault_row fault
 fetch_fault_row NoBuffer = packet_fault_row line.Memory

@@ -1,6 +1,6 @@
--- A client's end of a dialogue: it receives the advertisement and the reply to each request, and sends its next request
--- (gitprotocol-v2(5), "Capability Advertisement" and "Command Request"). Each message and its answer are parts of turns
--- (`Turns`).
+-- A client's end of a dialogue (gitprotocol-v2(5), "Capability Advertisement" and "Command Request"). It receives the
+-- advertisement and the reply to each request, and sends its next request. Each message and its answer are parts of
+-- turns (`Turns`).
 use Rattle.std.specs.Prelude.{◌≡◌, ◌⊎◌, ℕ, ◌+◌, ◌-◌, ◌≤◌, ◌^◌, Bool, true, false, List, [], length, Option, Some, None, Err}
 use Rattle.gname.specs.Ids.{Id}
 use Rattle.gpkt.specs.Packets.{Packet}
@@ -176,12 +176,17 @@ pub record IsFresh {A K : Type 0} (side : ClientSide A K) : Type 0 where
   pub unborn : side.client.unborn ≡ None
   pub fault : side.fault ≡ None
 
+-- the side has received no message, and it holds the inputs of the conversation
+pub record BeginsAt {A K : Type 0} (start : Start A) (side : ClientSide A K) : Type 0 where
+  pub fresh : IsFresh side
+  pub starts : start_of_side side ≡ start
+
 -- a client side that has received no message opens the dialogue without a packet
 abbrev pub OpensFresh : {A K : Type 0} → ClientSide A K → List Packet → Bool → Type 0
 OpensFresh side said goes = IsFresh side × SaysNothing said goes
 
--- A bound on the number of further messages that the client answers with a request: the advertisement, the ls-refs
--- reply, and one message for each further request for objects. The session counts these requests in 64 bits.
+-- A bound on the number of further messages that the client answers with a request. These are the advertisement, the
+-- ls-refs reply, and one message for each further request for objects. The session counts these requests in 64 bits.
 abbrev pub messages_after : Stage → Option Asked → ℕ → ℕ
 messages_after Listing None rounds = 2 ^ 64 + 3
 messages_after Fetching None rounds = (2 ^ 64 + 1) - rounds

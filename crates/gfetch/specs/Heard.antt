@@ -18,8 +18,8 @@ use Rattle.gfetch.specs.declared.heard.Heard.{Heard}
 use Rattle.gfetch.specs.declared.heard.Heard.TheVariants as heard
 
 module _ {A : Type 0} (session : SessionState A) where
-  -- the grammar of the next message, given the open request of the session: the advertisement before the first request,
-  -- and then the reply to the open request
+  -- The grammar of the next message, given the open request of the session. The message is the advertisement before the
+  -- first request, and then the reply to the open request.
   abbrev pub judge_after : Option Asked → Judge
   judge_after None = advert.judge
   judge_after (Some Empty) = advert.judge
@@ -34,7 +34,7 @@ module _ {A : Type 0} (session : SessionState A) where
   brings_after (Some (Fetches asked)) = brings_into false (reading_for session asked)
 
   -- The message consists of these packets so far. A reply is read with the parameters of the session and of its open
-  -- request, and the indexer has received the data of the pack so far.
+  -- request. The indexer has received the data of the pack so far.
   module _ {F : Type 0} (fed : F → Bytes → Type 0) (index_fails : IndexFails) where
     abbrev pub HearsAfter : Option Asked → Heard A F → List Packet → Type 0
     HearsAfter None (heard.Advert reader) packets = IsKept packets reader.has_version reader.advert
@@ -49,5 +49,6 @@ module _ {A : Type 0} (session : SessionState A) where
 abbrev pub session_judge : {A : Type 0} → SessionState A → Judge
 session_judge session = judge_after session session.pending
 
+-- whether a packet of the session's next message has contents to store
 abbrev pub session_brings : {A : Type 0} → SessionState A → List Packet → Packet → Bool
 session_brings session = brings_after session session.pending

@@ -5,6 +5,7 @@ pub mod Conversations
 pub mod Heard
 pub mod Saying
 pub mod Fetching
+pub mod Endings
 pub mod Laws
 pub mod Listings
 pub mod steps

@@ -85,8 +85,8 @@ FitsSource down (Message cause) = IsReadFailure false down cause.why
 FitsSource down fault = down ≡ false
 
 module _ {A : Type 0} (indexes : Indexes A) (index_fails : IndexFails) where
-  -- the client rejects the reply to the request with this fault, because a packet is unreadable or rejected, or because
-  -- the content of the complete reply is rejected
+  -- The client rejects the reply to the request with this fault. A packet is unreadable or rejected, or the content of
+  -- the complete reply is rejected.
   abbrev pub IsUntaken : SessionState A → Asked → RepoState A → Change → ClientFault A → Type 0
   IsUntaken waiting Empty repo change cause = ⊥
   IsUntaken waiting (Ls asked) repo change cause = IsLsFault waiting repo.graph.entries change cause

@@ -38,7 +38,8 @@ pub(crate) struct Client<A: Allocator + Copy> {
     session: Session<A>,
     // The ref that the server's unborn `HEAD` points at, if a refspec fetches `HEAD`.
     unborn: Option<RefName<A>>,
-    // The walk of the previous requests for objects, or `None` if the next request starts a new one.
+    // The walk of the previous requests for objects, or `None` if the next request starts a new
+    // one.
     walk: Option<Offers<A>>,
 }
 
@@ -84,22 +85,6 @@ impl<A: Allocator + Copy> Client<A> {
         ensures { result.now ≡ self.now.session }
     {
         &self.session
-    }
-
-    /// Consumes the client. Returns the repository, the session, and the target of the server's
-    /// unborn `HEAD`.
-    pub(crate) fn into_parts(self) -> (Repo<A>, Session<A>, Option<RefName<A>>)
-        ensures repo { result.0 ≡ self.repo }
-        ensures session { result.1 ≡ self.session }
-        ensures unborn { result.2 ≡ self.unborn }
-    {
-        let Client {
-            repo,
-            session,
-            unborn,
-            walk: _walk,
-        } = self;
-        (repo, session, unborn)
     }
 
     /// Exchanges the repository with another repository.

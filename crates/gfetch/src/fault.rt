@@ -15,9 +15,10 @@ use std::fmt;
 /// The reason why a conversation failed.
 #[derive(Debug, Drop)]
 pub enum FetchFault<A: Allocator + Copy = Global> {
-    /// A fault of the session. Faults 20 to 25, 29, 30 and 41 to 54: a packet of the advertisement
-    /// or of a reply was rejected. Faults 60 to 63, 66, 69, 75, 82 and 84 to 86: the refspecs, the
-    /// content of a reply or the update of refs was rejected. Fault 64: memory ran out.
+    /// A fault of the session. With faults 20 to 25, 29, 30 and 41 to 54, a packet of the
+    /// advertisement or of a reply was rejected. Faults 60 to 63, 66, 69, 75, 82 and 84 to 86
+    /// reject the refspecs, the content of a reply or the update of refs. With fault 64, memory ran
+    /// out.
     Client(ClientFault<A>),
     /// Fault 28: there is not enough memory for the buffers. Nothing was read.
     NoBuffer,
@@ -79,13 +80,5 @@ impl<A: Allocator + Copy> From<MessageFault> for FetchFault<A> {
 
     fn from(cause: MessageFault) -> FetchFault<A> {
         FetchFault::Client(ClientFault::Message(cause))
-    }
-}
-
-impl<A: Allocator + Copy> From<WriteFault> for FetchFault<A> {
-    ghost from_gives = { λ _ fault. fault ≡ fetch.WriteFailed };
-
-    fn from(_failed: WriteFault) -> FetchFault<A> {
-        FetchFault::WriteFailed
     }
 }

@@ -1,17 +1,17 @@
 //! A fetch over a blocking source and a blocking sink.
 
-ghost use Rattle.std.specs.Prelude.{◌≡◌, ◌+◌, ◌≤◌, ℕ, IfOk, OnErr};
+ghost use Rattle.std.specs.Prelude.{◌≡◌, ◌+◌, ◌≤◌, ℕ, length, IfErr, IfOk, OnErr};
 ghost use Rattle.gpkt.specs.Sending.{Input, Output, input_of, output_of};
 ghost use Rattle.gdag.specs.Reach.{Grows};
 ghost use Rattle.gdag.specs.Walks.{CountsReached};
 ghost use Rattle.gclientrepo.specs.Repos.{IsConnectedRepo};
 ghost use Rattle.gclientrepo.specs.Settling.{Settles};
 ghost use Rattle.gsession.specs.Keeping.{KeepsOn};
-ghost use Rattle.gsession.specs.Sessions.{tips_of};
-ghost use Rattle.gfetch.specs.Conversations.{FetchesOver};
-ghost use Rattle.gfetch.specs.Fetching.{IsFresh, KeepsIndexer, KeepsObjects, start_of_side};
-ghost use Rattle.gfetch.specs.Starts.{Start, start_for};
-ghost use Rattle.gfetch.specs.steps.Ending.{EndsTalk};
+ghost use Rattle.gsession.specs.Sessions.{max_specs, tips_of};
+ghost use Rattle.gfetch.specs.Conversations.{FailsAtStart, FetchesOver};
+ghost use Rattle.gfetch.specs.Endings.{EndsTalk};
+ghost use Rattle.gfetch.specs.Fetching.{BeginsAt, IsFresh, KeepsIndexer, KeepsObjects, start_of_side};
+ghost use Rattle.gfetch.specs.Starts.{Start, begin_session, start_for};
 
 use crate::fault::FetchFault;
 use crate::fetched::Fetched;
@@ -96,21 +96,72 @@ fn fetch_to<S: Source, W: Sink, A: Allocator + Copy, K: KeepingIndexer<A>>(
 {
     // Laws that the proof uses.
     repo.laws();
-    let alloc = repo.graph().allocator();
-    let session = Session::begin_with(alloc, repo, plan)?;
-    let (room, empty) = match make_room(alloc) {
+    let (session, room, empty) = match prepare::<A, K>(repo, plan) {
         Ok(made) => made,
-        Err(_) => return Err(FetchFault::NoBuffer),
+        Err(fault) => return Err(fault),
     };
     let side = ClientSide::new(mem::replace(repo, empty), session, indexer);
     let (driven, mut side) = talk(side, room, source, sink);
-    let fetched = finish(&mut side, driven);
-    side.swap_repo(repo);
+    let fetched = finish_into(&mut side, driven, repo);
     let _indexer = side.into_indexer();
     fetched
 }
 
-// Allocates the buffers, and a repository for the time in which the side owns the caller's.
+/// Begins a fetch whose dialogue the caller runs. Returns a client side that has received no
+/// message, and the buffers for its connection. The side owns the repository until [`end_fetch`],
+/// and `repo` is empty meanwhile.
+///
+/// Fails with `TooManySpecs` for more than 16 refspecs, and with `Repo` or `NoBuffer` if out of
+/// memory. The repository is then unchanged, and the indexer was not used.
+pub fn begin_fetch<'k, A: Allocator + Copy, K: KeepingIndexer<A>>(
+    repo: &mut Repo<A>,
+    indexer: &'k mut K,
+    plan: &FetchPlan<'_, A>,
+) -> Result<(ClientSide<'k, A, K>, Room<A>), FetchFault<A>>
+    ensures begins { IfOk result (λ begun. BeginsAt
+        (start_for repo.old plan.now.specs.now plan.now.limit plan.now.ends plan.now.options)
+        begun.0) }
+    ensures indexer { IfOk result (λ begun. begun.0.indexer.now ≡ indexer.old) }
+    ensures in_place { IfOk result (λ begun.
+        begun.0.indexer.ghost_name ≡ indexer.entry.ghost_name) }
+    ensures fails { IfErr result (λ fault. FailsAtStart K.indexes K.index_fails
+        (start_for repo.old plan.now.specs.now plan.now.limit plan.now.ends plan.now.options)
+        repo.new fault) }
+    ensures repo { OnErr result (repo.new ≡ repo.old) }
+{
+    let (session, room, empty) = match prepare::<A, K>(repo, plan) {
+        Ok(made) => made,
+        Err(fault) => return Err(fault),
+    };
+    let side = ClientSide::new(mem::replace(repo, empty), session, indexer);
+    Ok((side, room))
+}
+
+// Begins the session. Allocates the buffers, and a repository for the time in which the side owns
+// the caller's.
+fn prepare<A: Allocator + Copy, K: KeepingIndexer<A>>(
+    repo: &Repo<A>,
+    plan: &FetchPlan<'_, A>,
+) -> Result<(Session<A>, Room<A>, Repo<A>), FetchFault<A>>
+    ensures begins { IfOk result (λ made. made.0 ≡ begin_session
+        (start_for repo.now plan.now.specs.now plan.now.limit plan.now.ends plan.now.options)) }
+    ensures few { IfOk result (λ made. length plan.now.specs.now ≤ max_specs) }
+    ensures fails { IfErr result (λ fault. FailsAtStart K.indexes K.index_fails
+        (start_for repo.now plan.now.specs.now plan.now.limit plan.now.ends plan.now.options)
+        repo.now fault) }
+{
+    let alloc = repo.graph().allocator();
+    let session = match Session::begin_with(alloc, repo, plan) {
+        Ok(session) => session,
+        Err(fault) => return Err(FetchFault::Client(fault)),
+    };
+    match make_room(alloc) {
+        Ok((room, empty)) => Ok((session, room, empty)),
+        Err(_) => Err(FetchFault::NoBuffer),
+    }
+}
+
+// Allocates the buffers and an empty repository.
 fn make_room<A: Allocator + Copy>(alloc: A) -> Result<(Room<A>, Repo<A>), AllocError> {
     let room = Room::new(alloc)?;
     match Repo::new(Graph::new(alloc), Refs::new(alloc)) {
@@ -141,6 +192,56 @@ fn talk<'k, S: Source, W: Sink, A: Allocator + Copy, K: KeepingIndexer<A>>(
     glsreply::laws::endings();
     gfetchreply::laws::endings();
     run_dialogue(side, room, source, sink)
+}
+
+/// Ends a fetch whose dialogue the caller ran. Gives the repository back into `repo`, and updates
+/// the local refs after a dialogue without a fault. `driven` is the result of the dialogue: an
+/// error if the sink failed.
+///
+/// Fails with the fault that ended the dialogue, and with `WriteFailed` if the sink failed. Fails
+/// with `Repo` if the refs can't be updated (`NotConnected`, `Refs`), or if out of memory. After
+/// every fault the refs are unchanged, and the graph has lost no objects.
+pub fn end_fetch<A: Allocator + Copy, K: KeepingIndexer<A>>(
+    side: ClientSide<'_, A, K>,
+    driven: Result<bool, TalkFault>,
+    repo: &mut Repo<A>,
+) -> Result<Fetched<A>, FetchFault<A>>
+    ensures fetches { (start : Start A) (input : Input) (output : Output)
+        → EndsTalk K.indexes K.index_fails start input output side.entry driven
+        → FetchesOver K.indexes K.index_fails start input output repo.new result }
+    ensures bound { (start : Start A) (input : Input) (output : Output)
+        → EndsTalk K.indexes K.index_fails start input output side.entry driven
+        → IsConnectedRepo start.repo
+        → IfOk result (λ fetched. (held parents : ℕ)
+        → CountsReached start.repo.graph.entries (tips_of start.repo) held parents
+        → fetched.requests ≤ held + 1) }
+    ensures graph { repo.new.graph.entries ≡ side.entry.client.repo.graph.entries }
+{
+    let mut side = side;
+    finish_into(&mut side, driven, repo)
+}
+
+// Ends a fetch as `end_fetch` does, and leaves the indexer to the side.
+fn finish_into<A: Allocator + Copy, K: KeepingIndexer<A>>(
+    side: &mut ClientSide<'_, A, K>,
+    driven: Result<bool, TalkFault>,
+    repo: &mut Repo<A>,
+) -> Result<Fetched<A>, FetchFault<A>>
+    ensures fetches { (start : Start A) (input : Input) (output : Output)
+        → EndsTalk K.indexes K.index_fails start input output side.old driven
+        → FetchesOver K.indexes K.index_fails start input output repo.new result }
+    ensures bound { (start : Start A) (input : Input) (output : Output)
+        → EndsTalk K.indexes K.index_fails start input output side.old driven
+        → IsConnectedRepo start.repo
+        → IfOk result (λ fetched. (held parents : ℕ)
+        → CountsReached start.repo.graph.entries (tips_of start.repo) held parents
+        → fetched.requests ≤ held + 1) }
+    ensures indexer { KeepsIndexer side.old side.new }
+    ensures graph { repo.new.graph.entries ≡ side.old.client.repo.graph.entries }
+{
+    let fetched = finish(side, driven);
+    side.swap_repo(repo);
+    fetched
 }
 
 // Updates the local refs after a dialogue without a fault. Returns the result of the conversation.

@@ -4,14 +4,14 @@
 //! [`fetch_over_with`] runs this value, a [`ClientSide`], over a blocking source and a blocking
 //! sink. [`list_over`] only lists the refs of a server.
 //!
-//! A [`ClientSide`] owns a repository and a session that has begun, and borrows an indexer. It
-//! receives the advertisement, and then the reply to each of its requests ([`Heard`]). Its answer
-//! to a message is the next request, or a lone flush packet that ends the connection
-//! ([`ClientReply`]).
+//! A caller with its own loop calls [`begin_fetch`], runs the dialogue of the side, and calls
+//! [`end_fetch`]. The side owns the repository and a session, and borrows an indexer. It receives
+//! the advertisement, and then the reply to each of its requests ([`Heard`]). Its answer to a
+//! message is the next request, or a lone flush packet that ends the connection ([`ClientReply`]).
+//! The dialogue never changes the local refs. `end_fetch` gives the repository back, and updates
+//! the refs after a dialogue without a fault.
 //!
-//! The caller sends the first line of a `git://` connection. The dialogue of a [`ClientSide`] never
-//! changes the local refs. At the end, the caller takes the parts of the side, and calls
-//! `Session::settle`.
+//! The caller sends the first line of a `git://` connection.
 //!
 //! # Proved
 //!
@@ -21,11 +21,18 @@
 //! - The bytes alone determine the advertisement and the replies, however the bytes are split into
 //!   pieces. The client reads nothing after the last reply.
 //! - The client flushes each request before it reads the reply. At the end, it flushes a lone flush
-//!   packet. If the sink fails, all earlier requests were flushed.
-//! - The first fault ends the conversation. After every fault, the refs are unchanged. The graph only
-//!   gains objects, and the indexer keeps each object that the graph gains.
-//! - A completed conversation has at most N + 1 requests for objects, if the local refs reached N ids
-//!   at the start.
+//!   packet. If the sink fails, all earlier requests were flushed, and a prefix of the next one was
+//!   written.
+//! - The first fault ends the conversation. After every fault, the refs are unchanged. The graph
+//!   only gains objects, and the indexer keeps each object that the graph gains. Each ref stays
+//!   connected.
+//! - The client reports a failed source exactly when the source failed.
+//! - A conversation, completed or failed, has at most N + 1 requests for objects, if the local refs
+//!   reached N ids at the start ([`laws`]). The session counts each of them as a round.
+//!
+//! [`begin_fetch`] returns a side that has received no message, and the repository is unchanged
+//! after its faults (`BeginsAt`, `FailsAtStart`). If the dialogue of the side ends as
+//! `specs/Endings.antt` states, the result of [`end_fetch`] is that of a complete conversation.
 //!
 //! [`list_over`] holds a conversation that only requests refs (`specs/Listings.antt`).
 //!
@@ -55,15 +62,17 @@
 //!
 //! # What the contracts do not rule out
 //!
-//! - No law covers the end of the dialogue of a [`ClientSide`], or bounds the number of its
-//!   requests. Only the contract of [`fetch_over_with`] does.
+//! - No law states how the dialogue of a [`ClientSide`] ends over the caller's own loop. The caller
+//!   has to prove this (`specs/Endings.antt`), before it can use the contract of [`end_fetch`].
+//! - After [`end_fetch`] or a fault of [`begin_fetch`], no contract states the final value of the
+//!   borrowed indexer. Only the contract of [`fetch_over_with`] does.
 //! - Any message or request may fail with out of memory although memory is available.
 //! - The indexer may keep further objects, for example those of a rejected pack.
-//! - No contract bounds the time of an answer. The requests for objects share one walk from the tips
-//!   (`src/client.rt`), but a new walk for each request would satisfy the contracts, too.
+//! - No contract bounds the time of an answer. The requests for objects share one walk from the
+//!   tips (`src/client.rt`), but a new walk for each request would satisfy the contracts, too.
 //! - A call may queue only one packet, or no packet. An answer may be flushed more than once.
-//! - If a source or a sink does not record its bytes, the contracts say nothing about the bytes read
-//!   or written. They still state the outcome, and whether the source or the sink failed.
+//! - If a source or a sink does not record its bytes, the contracts say nothing about the bytes
+//!   read or written. They still state the outcome, and whether the source or the sink failed.
 //! - If the sink fails, no contract states how long the written prefix is.
 //! - Formatting a fault may return `fmt::Error` even if every write succeeds.
 //!
@@ -86,7 +95,7 @@ mod side;
 pub use crate::asking::{Asking, ClientReply};
 pub use crate::fault::FetchFault;
 pub use crate::fetched::Fetched;
-pub use crate::fetching::fetch_over_with;
+pub use crate::fetching::{begin_fetch, end_fetch, fetch_over_with};
 pub use crate::heard::Heard;
 pub use crate::listing::list_over;
 pub use crate::side::ClientSide;

@@ -2,7 +2,6 @@
 //! Request").
 
 ghost use Rattle.std.specs.Prelude.{◌≡◌, ◌≢◌, ◌<◌, ◌⊎◌, Bool, List, None, Some};
-ghost use Rattle.std.specs.Option.{option_copied};
 ghost use Rattle.gpkt.specs.Packets.{Packet};
 ghost use Rattle.ggrammar.specs.Grammar.{IsWhole};
 ghost use Rattle.ghello.specs.Adverts as adverts;
@@ -29,15 +28,14 @@ use ggrammar::{Message, MessageFault, Step, Why};
 use ggraph::KeepingIndexer;
 use ghello::{Advert, AdvertReader};
 use glsreply::LsReplyReader;
-use gname::RefName;
 use grequest::Request;
 use gsession::{ClientFault, ObjectsReader, Session};
 use std::alloc::Allocator;
 use std::mem;
 
 /// The client's end of a connection. The client receives the advertisement, and then the reply to
-/// each of its requests. The borrowed indexer reads the pack of a reply, and keeps the objects of an
-/// accepted pack.
+/// each of its requests. The borrowed indexer reads the pack of a reply, and keeps the objects of
+/// an accepted pack.
 ///
 /// After the last reply, the client sends a lone flush packet, which ends the connection. If a
 /// message is refused or rejected, the client sends nothing more, and stores the fault.
@@ -51,7 +49,11 @@ pub struct ClientSide<'k, A: Allocator + Copy, K> {
 impl<'k, A: Allocator + Copy, K> ClientSide<'k, A, K> {
     /// Returns a client side that has received no message. The session must have begun on this
     /// repository, and must not have received an advertisement.
-    pub fn new(repo: Repo<A>, session: Session<A>, indexer: &'k mut K) -> ClientSide<'k, A, K>
+    pub(crate) fn new(
+        repo: Repo<A>,
+        session: Session<A>,
+        indexer: &'k mut K,
+    ) -> ClientSide<'k, A, K>
         ensures repo { result.client.repo ≡ repo }
         ensures session { result.client.session ≡ session }
         ensures indexer { result.indexer.now ≡ indexer.old }
@@ -64,54 +66,6 @@ impl<'k, A: Allocator + Copy, K> ClientSide<'k, A, K> {
             indexer,
             fault: None,
         }
-    }
-
-    /// Returns the repository, with the objects received so far.
-    pub fn repo(&self) -> &Repo<A>
-        ensures { result.now ≡ self.now.client.repo }
-    {
-        self.client.repo()
-    }
-
-    /// Returns the session.
-    pub fn session(&self) -> &Session<A>
-        ensures { result.now ≡ self.now.client.session }
-    {
-        self.client.session()
-    }
-
-    /// Returns the fault that ended the dialogue, or `None`.
-    pub fn fault(&self) -> Option<&ClientFault<A>>
-        ensures { option_copied result ≡ self.now.fault }
-    {
-        self.fault.as_ref()
-    }
-
-    /// Consumes the side. Returns the repository, the session, the indexer, the target of the
-    /// server's unborn `HEAD`, and the fault that ended the dialogue.
-    pub fn into_parts(
-        self,
-    ) -> (
-        Repo<A>,
-        Session<A>,
-        &'k mut K,
-        Option<RefName<A>>,
-        Option<ClientFault<A>>,
-    )
-        ensures repo { result.0 ≡ self.entry.client.repo }
-        ensures session { result.1 ≡ self.entry.client.session }
-        ensures indexer { result.2.now ≡ self.entry.indexer.now }
-        ensures in_place { result.2.ghost_name ≡ self.entry.indexer.ghost_name }
-        ensures unborn { result.3 ≡ self.entry.client.unborn }
-        ensures fault { result.4 ≡ self.entry.fault }
-    {
-        let ClientSide {
-            client,
-            indexer,
-            fault,
-        } = self;
-        let (repo, session, unborn) = client.into_parts();
-        (repo, session, indexer, unborn, fault)
     }
 
     /// Exchanges the repository of the side with another repository.

@@ -35,31 +35,24 @@ AcceptsAdvert old capabilities new (Err (client.Message cause)) =
     (check_fault old.format capabilities ≡ Some cause.why) × (cause.frame ≡ 0) × (new ≡ over old)
 AcceptsAdvert old capabilities new (Err _) = ⊥
 
-module _ {A : Type 0} (indexes : Indexes A) (index_fails : IndexFails) where
-  -- the client rejects the content of a complete reply; the fault ends the session
-  pub record Declines (asked : FetchAsked) (old : ClientState A) (lines : List Packet) (new : ClientState A)
-      (cause : ClientFault A) : Type 0 where
-    pub declined : IsDeclined indexes index_fails old.session (Fetches asked) old.repo lines cause
-    pub session : new.session ≡ over old.session
-    pub repo : new.repo ≡ old.repo
-    pub unborn : new.unborn ≡ old.unborn
+-- the client rejects the content of a complete reply for this reason; the fault ends the session
+pub record Declines {A : Type 0} (Reason : Type 0) (old new : ClientState A) : Type 0 where
+  pub declined : Reason
+  pub session : new.session ≡ over old.session
+  pub repo : new.repo ≡ old.repo
+  pub unborn : new.unborn ≡ old.unborn
 
+module _ {A : Type 0} (indexes : Indexes A) (index_fails : IndexFails) where
   -- the result of applying a complete reply to a fetch request
   abbrev pub AcceptsObjects : FetchAsked → ClientState A → List Packet → ClientState A
       → Result (Unit {0}) (ClientFault A) → Type 0
   AcceptsObjects asked old lines new (Ok done) = TakesObjects indexes index_fails old.session asked old lines new
-  AcceptsObjects asked old lines new (Err cause) = Declines asked old lines new cause
-
--- the client rejects the refs of a complete reply; the fault ends the session
-pub record DeclinesRefs {A : Type 0} (old : ClientState A) (lines : List Packet)
-    (new : ClientState A) (cause : ClientFault A) : Type 0 where
-  pub declined : AreDeclinedRefs old.session old.repo lines cause
-  pub session : new.session ≡ over old.session
-  pub repo : new.repo ≡ old.repo
-  pub unborn : new.unborn ≡ old.unborn
+  AcceptsObjects asked old lines new (Err cause) =
+      Declines (IsDeclined indexes index_fails old.session (Fetches asked) old.repo lines cause) old new
 
 -- the result of applying a complete reply to an ls-refs request
 abbrev pub AcceptsRefs : {A : Type 0} → ClientState A → List Packet → ClientState A
     → Result (Unit {0}) (ClientFault A) → Type 0
 AcceptsRefs old lines new (Ok done) = TakesRefs old.session old lines new
-AcceptsRefs old lines new (Err cause) = DeclinesRefs old lines new cause
+AcceptsRefs old lines new (Err cause) =
+    Declines (AreDeclinedRefs old.session old.repo lines cause) old new

@@ -1,5 +1,5 @@
-use Rattle.gclient.proofs.CountLemmas.{CountLaws, next_is_few, talks_are_few, ends_are_few}
-use Rattle.gclient.proofs.laws.requests_are_few.Goals as goal
+use Rattle.gfetch.proofs.CountLemmas.{CountLaws, next_is_few, talks_are_few, ends_are_few}
+use Rattle.gfetch.proofs.laws.requests_are_few.Goals as goal
 
 pub returns : goal.returns
 returns g c =

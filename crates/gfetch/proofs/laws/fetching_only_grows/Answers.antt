@@ -1,5 +1,5 @@
 use Rattle.gfetch.proofs.KeptLemmas.{over_grows, over_keeps_refs}
-use Rattle.gclient.proofs.laws.fetching_only_grows.Goals as goal
+use Rattle.gfetch.proofs.laws.fetching_only_grows.Goals as goal
 
 pub returns-clause-grows : goal.returns-clause-grows
 returns-clause-grows g c = λ start input output new result is.

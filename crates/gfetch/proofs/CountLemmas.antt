@@ -25,8 +25,8 @@ use Rattle.gfetch.specs.Conversations.{Converses, Fails, cannot_ask, cannot_begi
 use Rattle.gfetch.specs.Starts.{Start, begin_session, hear_advert}
 use Rattle.gfetch.specs.Conversations.{cannot_send, cannot_settle, cannot_take, no_buffer, HasFetched, FailsToAsk}
 use Rattle.gfetch.specs.Conversations.{HasAsked, IsDue, request, ending, request_bytes, requests_bytes}
-use Rattle.gclient.specs.Laws.{NextIsFew, RoundsAreAsked, TalksAreFew, asked_in, count_of, objects_asked, AsksAtMost}
-use Rattle.gclient.specs.Laws.{EndsAreFew}
+use Rattle.gfetch.specs.Laws.{NextIsFew, RoundsAreAsked, TalksAreFew, asked_in, count_of, objects_asked, AsksAtMost}
+use Rattle.gfetch.specs.Laws.{EndsAreFew}
 use Rattle.gfetch.specs.Turns.{AreTurns, AsksNext, ClientState, IsTurn, Takes, Turn}
 use Rattle.gfetch.specs.declared.fault.FetchFault.{FetchFault}
 use Rattle.gfetch.specs.declared.fetched.Fetched.{Fetched}
