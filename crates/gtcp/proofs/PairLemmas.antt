@@ -6,7 +6,8 @@ use Rattle.gfetchreply.specs.Values.{default_limit}
 use Rattle.grefs.specs.Refspecs.{Refspec}
 use Rattle.gclientrepo.specs.Repos.{RepoState}
 use Rattle.gsession.specs.declared.options.PackOptions.{PackOptions}
-use Rattle.gfetch.specs.Starts.{no_options, start_for, start_of}
+use Rattle.gsession.specs.Sessions.{no_options}
+use Rattle.gfetch.specs.Starts.{start_for, start_of}
 use Rattle.gfetch.specs.declared.fault.FetchFault.{FetchFault}
 use Rattle.gfetch.specs.declared.fetched.Fetched.{Fetched}
 use Rattle.gcmd.specs.Fetching.{plain_index_fails, plain_indexes}

@@ -15,8 +15,8 @@ returns-in-Ok-fetch_between-clause-fetches g c =
     (fetched_between old specs new c.default.result c.default-2.result c.in-Ok.hello (Ok fetched) c.default.ensures c.default-2.ensures
     c.in-Ok.ensures.0 c.in-Ok-fetch_between.ensures.fetches)
 
-pub returns-in-Err-fetch_between-clause-fetches : goal.returns-in-Err-fetch_between-clause-fetches
-returns-in-Err-fetch_between-clause-fetches g c =
+pub returns-clause-fetches : goal.returns-clause-fetches
+returns-clause-fetches g c =
     let old = c.args.repo.now in
     let specs = c.args.specs.now in
     let new = c.fetch_between.new.repo in
