@@ -3,3 +3,4 @@ pub mod Lines
 pub mod Outputs
 pub mod Printing
 pub mod Stored
+pub mod Streams

@@ -7,6 +7,7 @@ ghost use Rattle.gpkt.specs.Sending.{input_of, output_of};
 ghost use Rattle.gclientrepo.specs.Repos.{RepoState};
 ghost use Rattle.gcmd.specs.Fetching.{Concludes, FetchesFile, IsFetched, IsFetchedInto, NamesClient, Reports, SendsReport};
 ghost use Rattle.gcmd.specs.Programs.{Runs};
+ghost use Rattle.gcmd.specs.steps.Streams.{OnBoth, OnSink};
 
 use crate::client_file::open_client;
 use crate::fault::ProgramFault;
@@ -95,14 +96,10 @@ fn fetch_into<A: Allocator + Copy, S: Source, W: Sink, R: Sink>(
     output: &mut W,
     report: &mut R,
 ) -> (Result<(), ProgramFault<A>>, Option<Vec<u8, A>>)
-    ensures fetches { FetchesFile {A = A} fetch.now.file.now fetch.now.specs.now fetch.now.limit
-        fetch.now.ends (input_of S.remaining S.is_down input.old input.new)
-        (output_of W.contents W.passed_on W.is_down output.old output.new)
-        (output_of R.contents R.passed_on R.is_down report.old report.new)
-        (option_map (λ text. text.items) result.1) result.0 }
-    ensures input_loans { S.loans input.new ≡ S.loans input.old }
-    ensures output_loans { W.loans output.new ≡ W.loans output.old }
-    ensures report_loans { R.loans report.new ≡ R.loans report.old }
+    ensures { OnBoth S.Source input.old input.new W.Sink output.old output.new
+        (λ read written. OnSink R.Sink report.old report.new (λ told. FetchesFile {A = A}
+        fetch.now.file.now fetch.now.specs.now fetch.now.limit fetch.now.ends read written told
+        (option_map (λ text. text.items) result.1) result.0)) }
 {
     match open_client(alloc, fetch.file) {
         Ok(mut repo) => fetch_for(&mut repo, fetch, input, output, report),
@@ -119,15 +116,11 @@ fn fetch_for<A: Allocator + Copy, S: Source, W: Sink, R: Sink>(
     output: &mut W,
     report: &mut R,
 ) -> (Result<(), ProgramFault<A>>, Option<Vec<u8, A>>)
-    ensures fetches { (file : Bytes) → NamesClient file repo.old
-        → IsFetched {A = A} file fetch.now.specs.now fetch.now.limit fetch.now.ends
-        (input_of S.remaining S.is_down input.old input.new)
-        (output_of W.contents W.passed_on W.is_down output.old output.new)
-        (output_of R.contents R.passed_on R.is_down report.old report.new)
-        (option_map (λ text. text.items) result.1) result.0 }
-    ensures input_loans { S.loans input.new ≡ S.loans input.old }
-    ensures output_loans { W.loans output.new ≡ W.loans output.old }
-    ensures report_loans { R.loans report.new ≡ R.loans report.old }
+    ensures { OnBoth S.Source input.old input.new W.Sink output.old output.new
+        (λ read written. OnSink R.Sink report.old report.new (λ told. (file : Bytes)
+        → NamesClient file repo.old → IsFetched {A = A} file fetch.now.specs.now fetch.now.limit
+        fetch.now.ends read written told
+        (option_map (λ text. text.items) result.1) result.0)) }
 {
     let alloc = repo.graph().allocator();
     match fetch_over(

@@ -3,6 +3,7 @@
 ghost use Rattle.std.specs.Prelude.{◌≡◌};
 ghost use Rattle.gcmd.specs.Programs.{Runs};
 ghost use Rattle.gcmd.specs.Serving.{outcome_of_exchange, ServesRequest};
+ghost use Rattle.gcmd.specs.steps.Streams.{OnBoth};
 ghost use Rattle.gpkt.specs.Sending.{input_of, output_of};
 
 use crate::fault::ProgramFault;
@@ -47,10 +48,8 @@ fn answer_one<A: Allocator + Copy, S: Source, W: Sink>(
     input: &mut S,
     output: &mut W,
 ) -> Result<(), ProgramFault<A>>
-    ensures serves { ServesRequest file.now (input_of S.remaining S.is_down input.old input.new)
-        (output_of W.contents W.passed_on W.is_down output.old output.new) result }
-    ensures input_loans { S.loans input.new ≡ S.loans input.old }
-    ensures output_loans { W.loans output.new ≡ W.loans output.old }
+    ensures { OnBoth S.Source input.old input.new W.Sink output.old output.new
+        (λ read written. ServesRequest {A = A} file.now read written result) }
 {
     let server = load_server(alloc, file)?;
     let mut packer = OnePack::new(&PlainPack);

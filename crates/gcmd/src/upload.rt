@@ -3,6 +3,7 @@
 ghost use Rattle.std.specs.Prelude.{◌≡◌};
 ghost use Rattle.gcmd.specs.Programs.{Runs};
 ghost use Rattle.gcmd.specs.Serving.{outcome_of_connection, ServesConnection};
+ghost use Rattle.gcmd.specs.steps.Streams.{OnBoth};
 ghost use Rattle.gpkt.specs.Sending.{input_of, output_of};
 
 use crate::fault::ProgramFault;
@@ -49,11 +50,8 @@ fn answer_all<A: Allocator + Copy, S: Source, W: Sink>(
     input: &mut S,
     output: &mut W,
 ) -> Result<(), ProgramFault<A>>
-    ensures serves { ServesConnection file.now ends
-        (input_of S.remaining S.is_down input.old input.new)
-        (output_of W.contents W.passed_on W.is_down output.old output.new) result }
-    ensures input_loans { S.loans input.new ≡ S.loans input.old }
-    ensures output_loans { W.loans output.new ≡ W.loans output.old }
+    ensures { OnBoth S.Source input.old input.new W.Sink output.old output.new
+        (λ read written. ServesConnection {A = A} file.now ends read written result) }
 {
     let server = load_server(alloc, file)?;
     let mut packer = OnePack::new(&PlainPack);
