@@ -3,7 +3,7 @@
 ghost use Rattle.std.specs.Prelude.{◌≡◌, IfOk};
 ghost use Rattle.gpkt.specs.Packets.{Bytes};
 ghost use Rattle.gdag.specs.Reach.{Grows};
-ghost use Rattle.gcmd.specs.steps.Streams.{given, SameSink};
+ghost use Rattle.gcmd.specs.steps.Streams.{given, OnSink, SameSink};
 ghost use Rattle.gclientrepo.specs.Settling.{Settles};
 ghost use Rattle.gcmd.specs.Fetching.{NamesClient};
 ghost use Rattle.gcmd.specs.Programs.{Runs};
@@ -142,9 +142,7 @@ fn announce<A: Allocator + Copy, L: OpenListener, W: Sink>(
     listener: &L,
     output: &mut W,
 ) -> Result<(), ProgramFault<A>>
-    ensures announces { Announces {A = A} (given W.Sink output.old
-        output.new) result }
-    ensures loans { SameSink W.Sink output.old output.new }
+    ensures { OnSink W.Sink output.old output.new (λ written. Announces {A = A} written result) }
 {
     match listener.local_addr() {
         Ok(address) => show_port(alloc, address.port(), output),
@@ -157,9 +155,7 @@ fn show_port<A: Allocator + Copy, W: Sink>(
     port: u16,
     output: &mut W,
 ) -> Result<(), ProgramFault<A>>
-    ensures announces { Announces {A = A} (given W.Sink output.old
-        output.new) result }
-    ensures loans { SameSink W.Sink output.old output.new }
+    ensures { OnSink W.Sink output.old output.new (λ written. Announces {A = A} written result) }
 {
     match format!(in alloc; "listening {port}\n") {
         Ok(line) => send_text(line.as_bytes(), output),
@@ -211,9 +207,8 @@ fn list_remote<A: Allocator + Copy, N, W: Sink>(
 ) -> Result<(), ProgramFault<A>>
 where
     N: Net,
-    ensures lists { ListsRemote {A = A} listing.now.prefixes.now listing.now.place.now.hello
-        (given W.Sink output.old output.new) result }
-    ensures loans { SameSink W.Sink output.old output.new }
+    ensures { OnSink W.Sink output.old output.new (λ written. ListsRemote {A = A}
+        listing.now.prefixes.now listing.now.place.now.hello written result) }
 {
     match ask_remote(net, alloc, listing) {
         Ok(reply) => show_reply(alloc, &reply, output),
@@ -250,9 +245,8 @@ fn show_reply<A: Allocator + Copy, W: Sink>(
     reply: &LsReply<A>,
     output: &mut W,
 ) -> Result<(), ProgramFault<A>>
-    ensures shows { ShowsReply {A = A} reply.now
-        (given W.Sink output.old output.new) result }
-    ensures loans { SameSink W.Sink output.old output.new }
+    ensures { OnSink W.Sink output.old output.new (λ written. ShowsReply {A = A} reply.now written
+        result) }
 {
     match text_of(alloc, reply) {
         Ok(text) => send_text(text.as_slice(), output),
@@ -440,9 +434,8 @@ fn meet<A: Allocator + Copy, N, W: Sink>(
 ) -> Result<(), ProgramFault<A>>
 where
     N: Net,
-    ensures meets { Meets {A = A} pair.now.client.now pair.now.specs.now
-        (given W.Sink output.old output.new) result }
-    ensures loans { SameSink W.Sink output.old output.new }
+    ensures { OnSink W.Sink output.old output.new (λ written. Meets {A = A} pair.now.client.now
+        pair.now.specs.now written result) }
 {
     match open_client(pair.server.graph().allocator(), pair.client) {
         Ok(mut repo) => meet_client(net, pair.server, &mut repo, pair.specs, output),
@@ -460,10 +453,8 @@ fn meet_client<A: Allocator + Copy, N, W: Sink>(
 ) -> Result<(), ProgramFault<A>>
 where
     N: Net,
-    ensures meets { (file : Bytes) → NamesClient file repo.old
-        → Meets {A = A} file specs.now (given W.Sink output.old
-        output.new) result }
-    ensures loans { SameSink W.Sink output.old output.new }
+    ensures { OnSink W.Sink output.old output.new (λ written. (file : Bytes)
+        → NamesClient file repo.old → Meets {A = A} file specs.now written result) }
 {
     match fetch_in_pair(net, server, repo, specs) {
         Ok(fetched) => send_report(server.graph().allocator(), &fetched, output),

@@ -10,7 +10,7 @@ pub returns-in-Err-clause-serves : goal.returns-in-Err-clause-serves
 returns-in-Err-clause-serves g c = λ file names.
     inr (
       c.in-Err.fault,
-      inr (c.args.server.now, names, c.in-Err.ensures.announces),
+      inr (c.args.server.now, names, c.in-Err.ensures.0),
       refl,
       record { written = refl; passed_on = refl; down = refl },
     )
@@ -22,7 +22,7 @@ returns-in-Ok-announce-clause-serves g c =
     λ file names. inl (record {
       server = c.args.server.now;
       names = names;
-      announces = c.in-Ok-announce.ensures.announces;
+      announces = c.in-Ok-announce.ensures.0;
       serves =
           subst (λ (path : List ℕ). ServesEach c.args.server.now (MayPack plain_packs) plain_pack_fails path service.ends errors
           service.connections c.serve_listener.result)
