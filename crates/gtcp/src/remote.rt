@@ -87,12 +87,9 @@ fn serve_all<A: Allocator + Copy, N, W: Sink, E: Sink>(
 ) -> Result<(), ProgramFault<A>>
 where
     N: Net + Clock,
-    ensures serves { ServesRemote service.now.file.now service.now.place.now.hello.path
-        service.now.ends
-        service.now.connections (given W.Sink output.old output.new)
-        (given E.Sink errors.old errors.new) result }
-    ensures output_loans { SameSink W.Sink output.old output.new }
-    ensures errors_loans { SameSink E.Sink errors.old errors.new }
+    ensures { OnSink W.Sink output.old output.new (λ written. OnSink E.Sink errors.old errors.new
+        (λ printed. ServesRemote service.now.file.now service.now.place.now.hello.path
+        service.now.ends service.now.connections written printed result)) }
 {
     match load_server(alloc, service.file) {
         Ok(server) => serve_at(net, &server, service, output, errors),
@@ -111,12 +108,10 @@ fn serve_at<A: Allocator + Copy, N, W: Sink, E: Sink>(
 ) -> Result<(), ProgramFault<A>>
 where
     N: Net + Clock,
-    ensures serves { (file : Bytes) → NamesServer file server.now
+    ensures { OnSink W.Sink output.old output.new (λ written. OnSink E.Sink errors.old errors.new
+        (λ printed. (file : Bytes) → NamesServer file server.now
         → ServesRemote file service.now.place.now.hello.path service.now.ends
-        service.now.connections (given W.Sink output.old output.new)
-        (given E.Sink errors.old errors.new) result }
-    ensures output_loans { SameSink W.Sink output.old output.new }
-    ensures errors_loans { SameSink E.Sink errors.old errors.new }
+        service.now.connections written printed result)) }
 {
     let Ok(listener) = TcpListener::bind(net, service.place.address()) else {
         return Err(ProgramFault::Socket);
@@ -317,10 +312,9 @@ where
     T: Storage,
     R: Sink,
     requires { T.lockfile file.old ≡ Absent }
-    ensures fetches { FetchesRemote {A = A} fetch.now.specs.now fetch.now.limit fetch.now.ends
-        fetch.now.place.now.hello (stored_of T.texts T.lockfile file.old file.new)
-        (given R.Sink report.old report.new) result }
-    ensures loans { SameSink R.Sink report.old report.new }
+    ensures { OnSink R.Sink report.old report.new (λ told. FetchesRemote {A = A}
+        fetch.now.specs.now fetch.now.limit fetch.now.ends fetch.now.place.now.hello
+        (stored_of T.texts T.lockfile file.old file.new) told result) }
 {
     match open_stored(alloc, file) {
         Ok(mut opened) => fetch_opened(net, &mut opened, file, fetch, report),
@@ -342,13 +336,12 @@ where
     T: Storage,
     R: Sink,
     requires { T.lockfile file.old ≡ Empty }
-    ensures fetches { Holds (T.texts file.old) opened.old.text.items
+    ensures fetches { OnSink R.Sink report.old report.new (λ told.
+        Holds (T.texts file.old) opened.old.text.items
         → NamesClient opened.old.text.items opened.old.repo
         → IsFetchedRemote {A = A} fetch.now.specs.now fetch.now.limit fetch.now.ends
-        fetch.now.place.now.hello (stored_of T.texts T.lockfile file.old file.new)
-        (given R.Sink report.old report.new) result }
+        fetch.now.place.now.hello (stored_of T.texts T.lockfile file.old file.new) told result) }
     ensures lockfile { T.lockfile file.new ≡ Absent }
-    ensures loans { SameSink R.Sink report.old report.new }
 {
     match fetch_at(net, &mut opened.repo, fetch) {
         Ok(fetched) => {
