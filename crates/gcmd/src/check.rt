@@ -3,8 +3,7 @@
 ghost use Rattle.std.specs.Prelude.{◌≡◌, ◌≤◌, [], length, IfOk};
 ghost use Rattle.gcmd.specs.Checking.{report_line, yes_or_no, Checks, IsReport};
 ghost use Rattle.gcmd.specs.Programs.{Runs};
-ghost use Rattle.gpkt.specs.Sending.{output_of};
-ghost use Rattle.gcmd.specs.steps.Streams.{OnSink, SendsTo};
+ghost use Rattle.gcmd.specs.steps.Streams.{given, OnSink, SameSink, SendsTo};
 
 use crate::compose::add_number;
 use crate::fault::ProgramFault;
@@ -34,10 +33,10 @@ pub fn cmd_check<A: Allocator + Copy, W: Sink, E: Sink>(
     errors: &mut E,
 ) -> u8
     ensures runs { Runs {A = A} (Checks file.now
-        (output_of W.contents W.passed_on W.is_down output.old output.new))
-        (output_of E.contents E.passed_on E.is_down errors.old errors.new) result }
-    ensures output_loans { W.loans output.new ≡ W.loans output.old }
-    ensures errors_loans { E.loans errors.new ≡ E.loans errors.old }
+        (given W.Sink output.old output.new))
+        (given E.Sink errors.old errors.new) result }
+    ensures output_loans { SameSink W.Sink output.old output.new }
+    ensures errors_loans { SameSink E.Sink errors.old errors.new }
 {
     finish(check(alloc, file, output), errors)
 }

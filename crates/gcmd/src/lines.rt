@@ -7,8 +7,7 @@ ghost use Rattle.gpkt.specs.Packets.{packet_of};
 ghost use Rattle.gcmd.specs.steps.Lines.{chunk, ShowsEach, HasPassed};
 ghost use Rattle.gcmd.specs.Lines.{digits_part, shown_line, ShowsLines};
 ghost use Rattle.gcmd.specs.Programs.{Runs};
-ghost use Rattle.gpkt.specs.Sending.{input_of, output_of};
-ghost use Rattle.gcmd.specs.steps.Streams.{OnBoth, Puts};
+ghost use Rattle.gcmd.specs.steps.Streams.{given, OnBoth, Puts, SameSink, SameSource, taken};
 
 use crate::compose::add_number;
 use crate::fault::ProgramFault;
@@ -40,12 +39,12 @@ pub fn cmd_lines<A: Allocator + Copy, S: Source, W: Sink, E: Sink>(
     output: &mut W,
     errors: &mut E,
 ) -> u8
-    ensures runs { Runs {A = A} (ShowsLines (input_of S.remaining S.is_down input.old input.new)
-        (output_of W.contents W.passed_on W.is_down output.old output.new))
-        (output_of E.contents E.passed_on E.is_down errors.old errors.new) result }
-    ensures input_loans { S.loans input.new ≡ S.loans input.old }
-    ensures output_loans { W.loans output.new ≡ W.loans output.old }
-    ensures errors_loans { E.loans errors.new ≡ E.loans errors.old }
+    ensures runs { Runs {A = A} (ShowsLines (taken S.Source input.old input.new)
+        (given W.Sink output.old output.new))
+        (given E.Sink errors.old errors.new) result }
+    ensures input_loans { SameSource S.Source input.old input.new }
+    ensures output_loans { SameSink W.Sink output.old output.new }
+    ensures errors_loans { SameSink E.Sink errors.old errors.new }
 {
     finish(show_lines(alloc, input, output), errors)
 }

@@ -2,12 +2,11 @@
 
 ghost use Rattle.std.specs.Prelude.{◌≡◌, Err, Ok, MatchResult, length};
 ghost use Rattle.gpkt.specs.Packets.{Bytes};
-ghost use Rattle.gpkt.specs.Sending.{input_of, output_of};
 ghost use Rattle.glockfile.specs.Storing.{Holds};
 ghost use Rattle.glockfile.specs.declared.storage.Lockfile.TheVariants.{Absent, Empty};
 ghost use Rattle.gcmd.specs.Fetching.{NamesClient};
 ghost use Rattle.gcmd.specs.steps.Stored.{ExitsNext, StoresAndReports};
-ghost use Rattle.gcmd.specs.steps.Streams.{OnBoth, OnSink};
+ghost use Rattle.gcmd.specs.steps.Streams.{given, OnBoth, OnSink, SameSink, SameSource, taken};
 ghost use Rattle.gcmd.specs.Stored.{ConcludesStored, FetchesStored, IsFetchedStored, IsReplaced, OpensStored, ReportsAndExits, stored_of};
 
 use crate::client_file::open_client;
@@ -62,12 +61,12 @@ pub fn cmd_fetch_stored<A: Allocator + Copy, T: Storage, S: Source, W: Sink, E: 
     requires { T.lockfile file.old ≡ Absent }
     ensures runs { ReportsAndExits {A = A} (FetchesStored fetch.now.specs.now fetch.now.limit
         fetch.now.ends (stored_of T.texts T.lockfile file.old file.new)
-        (input_of S.remaining S.is_down input.old input.new)
-        (output_of W.contents W.passed_on W.is_down output.old output.new))
-        (output_of E.contents E.passed_on E.is_down errors.old errors.new) result }
-    ensures input_loans { S.loans input.new ≡ S.loans input.old }
-    ensures output_loans { W.loans output.new ≡ W.loans output.old }
-    ensures errors_loans { E.loans errors.new ≡ E.loans errors.old }
+        (taken S.Source input.old input.new)
+        (given W.Sink output.old output.new))
+        (given E.Sink errors.old errors.new) result }
+    ensures input_loans { SameSource S.Source input.old input.new }
+    ensures output_loans { SameSink W.Sink output.old output.new }
+    ensures errors_loans { SameSink E.Sink errors.old errors.new }
 {
     let outcome = fetch_stored(alloc, file, fetch, input, output, errors);
     exit_after(outcome, errors)
@@ -215,9 +214,9 @@ pub fn conclude_stored<A: Allocator + Copy, T: Storage, R: Sink>(
     ensures concludes { Holds (T.texts file.old) old.now
         → ConcludesStored old.now repo.now fetched.now
         (stored_of T.texts T.lockfile file.old file.new)
-        (output_of R.contents R.passed_on R.is_down report.old report.new) result }
+        (given R.Sink report.old report.new) result }
     ensures lockfile { T.lockfile file.new ≡ Absent }
-    ensures report_loans { R.loans report.new ≡ R.loans report.old }
+    ensures report_loans { SameSink R.Sink report.old report.new }
 {
     match text_of(repo.graph().allocator(), repo) {
         Ok(text) => store(file, old, &text, fetched, report),
