@@ -198,9 +198,9 @@ fn talk<'k, S: Source, W: Sink, A: Allocator + Copy, K: KeepingIndexer<A>>(
 /// the local refs after a dialogue without a fault. `driven` is the result of the dialogue: an
 /// error if the sink failed.
 ///
-/// Fails with the fault that ended the dialogue, and with `WriteFailed` if the sink failed. Fails
-/// with `Repo` if the refs can't be updated (`NotConnected`, `Refs`), or if out of memory. After
-/// every fault the refs are unchanged, and the graph has lost no objects.
+/// Fails with the fault that ended the dialogue, and with `WriteFailed` if `driven` is an error.
+/// Fails with `Repo` if the refs can't be updated (`NotConnected`, `Refs`), or if out of memory.
+/// After every fault the refs are unchanged, and the graph has lost no objects.
 pub fn end_fetch<A: Allocator + Copy, K: KeepingIndexer<A>>(
     side: ClientSide<'_, A, K>,
     driven: Result<bool, TalkFault>,

@@ -64,6 +64,7 @@
 //!
 //! - No law states how the dialogue of a [`ClientSide`] ends over the caller's own loop. The caller
 //!   has to prove this (`specs/Endings.antt`), before it can use the contract of [`end_fetch`].
+//! - After [`begin_fetch`] succeeds, no contract states the caller's repository.
 //! - After [`end_fetch`] or a fault of [`begin_fetch`], no contract states the final value of the
 //!   borrowed indexer. Only the contract of [`fetch_over_with`] does.
 //! - Any message or request may fail with out of memory although memory is available.

@@ -24,7 +24,7 @@ module _ {A : Type 0} (indexes : Indexes A) (index_fails : IndexFails) (start : 
   FailsSo = (cause : FetchFault A) × FetchesSo (Err cause)
 
   -- The result of a fetch between two ends: the result of the client's conversation. The conversation failed if a
-  -- message was too long or memory for a message ran out. If memory for the buffers ran out, the repository is
+  -- message was too long or memory for a message ran out. If memory for the server's buffers ran out, the repository is
   -- unchanged.
   abbrev pub FetchesBetween : Result (Fetched A) (PairFault A) → Type 0
   FetchesBetween (Ok fetched) = FetchesSo (Ok fetched)

@@ -8,7 +8,7 @@ use std::alloc::{Allocator, Global};
 pub enum PairFault<A: Allocator + Copy = Global> {
     /// A message was too long. No byte of the message was written.
     TooLong,
-    /// There was not enough memory for the buffers or for a message.
+    /// There was not enough memory for the server's buffers or for a message.
     Memory,
     /// The client's conversation failed for another reason.
     Fetch(FetchFault<A>),

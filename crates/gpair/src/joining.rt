@@ -15,13 +15,15 @@ use std::alloc::Allocator;
 /// Runs two ends alternately, until the conversation of the near end has ended. Returns whether the
 /// near end sent bytes.
 ///
+/// Each source reads what the sink of the other end flushes, and both count from the same byte.
 /// Each turn is flushed before the other end reads. If the far end has nothing to send, the near
 /// end is notified that its input has ended. If the far end fails to send a turn, the near end is
 /// notified that its source has failed. The far end receives the last bytes of the near end, if it
-/// listens.
+/// listens. If the far end has pending bytes at the call, the near end is notified that its source
+/// has failed.
 ///
-/// Fails with `Io` if the sink of the near end fails, and with `Memory` if there is not enough
-/// memory for the send queue of the near end.
+/// Fails with `Io` if the sink of the near end fails. Fails with `Memory` if memory for its send
+/// queue runs out.
 pub fn join<C, S, W, D, F, V, A>(
     near: &mut End<C, S, W, A>,
     far: &mut End<D, F, V, A>,

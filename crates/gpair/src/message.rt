@@ -12,7 +12,7 @@ use std::alloc::{Allocator, Global};
 use std::marker::Model;
 
 /// The maximum length in bytes of a message between the client and the server of a pair. The
-/// buffers of a connection have room for one unread message of this length.
+/// system's buffers of a socket usually have room for one unread message of this length.
 pub const MAX_MESSAGE: usize = 32_768;
 
 /// A sink that holds a message back until a flush. If a message is too long, the sink fails, and no
@@ -21,8 +21,8 @@ pub const MAX_MESSAGE: usize = 32_768;
 pub struct MessageSink<W, A: Allocator + Copy = Global> {
     sink: W,
     held: Vec<u8, A>,
-    // The number of bytes that were written to the inner sink.
-    written: usize,
+    // The number of bytes that were flushed.
+    flushed: usize,
     is_too_long: bool,
     lacks_memory: bool,
     is_down: bool,
@@ -40,7 +40,7 @@ impl<W, A: Allocator + Copy> Model for MessageSink<W, A> {
     ghost view = { λ s. record {
       inner = s.sink;
       held = s.held.items;
-      written = s.written;
+      flushed = s.flushed;
       too_long = s.is_too_long;
       lacks_memory = s.lacks_memory;
       down = s.is_down;
@@ -55,7 +55,7 @@ impl<W, A: Allocator + Copy> MessageSink<W, A> {
         ensures { result ≡ record {
           inner = sink;
           held = [];
-          written = 0;
+          flushed = 0;
           too_long = false;
           lacks_memory = false;
           down = false;
@@ -64,18 +64,11 @@ impl<W, A: Allocator + Copy> MessageSink<W, A> {
         MessageSink {
             sink,
             held: Vec::new(alloc),
-            written: 0,
+            flushed: 0,
             is_too_long: false,
             lacks_memory: false,
             is_down: false,
         }
-    }
-
-    /// Returns the number of bytes that were written to the inner sink, at most `usize::MAX`.
-    pub fn bytes_written(&self) -> usize
-        ensures { result ≡ self.now.written }
-    {
-        self.written
     }
 
     /// Returns whether a message was too long.
@@ -90,13 +83,6 @@ impl<W, A: Allocator + Copy> MessageSink<W, A> {
         ensures { result ≡ self.now.lacks_memory }
     {
         self.lacks_memory
-    }
-
-    /// Returns whether the sink has failed.
-    pub fn has_failed(&self) -> bool
-        ensures { result ≡ self.now.down }
-    {
-        self.is_down
     }
 
     // Marks the sink as failed, and returns the error.
@@ -125,7 +111,7 @@ impl<W: Sink, A: Allocator + Copy> MessageSink<W, A> {
         ensures lacks { self.new.lacks_memory
             ≡ ((is_err result && not (nat_lt max_message
             (length self.old.held + length bytes.now))) || self.old.lacks_memory) }
-        ensures written { self.new.written ≡ self.old.written }
+        ensures flushed { self.new.flushed ≡ self.old.flushed }
         ensures down { OnErr result (self.new.down ≡ true) }
         ensures up { OnOk result (self.new.down ≡ false) }
     {
@@ -153,7 +139,6 @@ impl<W: Sink, A: Allocator + Copy> MessageSink<W, A> {
     {
         let (count, sent) = write_front(self.held.as_slice(), &mut self.sink);
         remove_front(&mut self.held, count);
-        self.written = self.written.saturating_add(count);
         sent
     }
 }
@@ -208,11 +193,15 @@ impl<W: Sink, A: Allocator + Copy> Sink for MessageSink<W, A> {
     }
 
     fn flush(&mut self) -> Result<(), Down> {
+        let count = self.held.len();
         if self.is_down || self.write_held().is_err() {
             return self.fail();
         }
         match self.sink.flush() {
-            Ok(()) => Ok(()),
+            Ok(()) => {
+                self.flushed = self.flushed.saturating_add(count);
+                Ok(())
+            }
             Err(_) => self.fail(),
         }
     }
@@ -220,6 +209,6 @@ impl<W: Sink, A: Allocator + Copy> Sink for MessageSink<W, A> {
 
 impl<W, A: Allocator + Copy> CountsBytes for MessageSink<W, A> {
     fn byte_count(&self) -> usize {
-        self.written
+        self.flushed
     }
 }

@@ -40,8 +40,8 @@ pub struct Wires<N, V, F, W> {
 ///
 /// Fails with `TooLong` if a message would have more than [`MAX_MESSAGE`](crate::MAX_MESSAGE)
 /// bytes. In that case no byte of the message is written, and client and server stop. Fails with
-/// `Memory` if out of memory for the buffers or for a message. Otherwise fails with the faults of
-/// `gclient::fetch_git`.
+/// `Memory` if out of memory for the server's buffers or for a message. Otherwise fails with the
+/// faults of `gclient::fetch_git`.
 pub fn fetch_between<A, P, K, N, V, F, W>(
     server: &LocalServer<'_, A, P>,
     repo: &mut Repo<A>,

@@ -2,6 +2,7 @@
 use Rattle.std.specs.Prelude.{◌≡◌, ℕ, Bool, true, false, ◌+◌, ◌≤◌, ◌⊎◌, ◌++◌}
 use Rattle.std.specs.Prelude.{[], length, Option, Some, None, Result, Ok, Err}
 use Rattle.std.specs.Io.KnownBytes.{IsAtEnd}
+use Rattle.gpkt.specs.Change.{Change, WhereKnown}
 use Rattle.gpkt.specs.Packets.{Bytes, Packet, Spells, digit_count, max_packet}
 use Rattle.gpkt.specs.PacketReading.{AnnouncesAtFront, IsPartialPacket, NoPacket}
 use Rattle.gpkt.specs.declared.fault.PacketFault.{PacketFault}
@@ -72,3 +73,7 @@ LeavesSource (Some stop.Ended) remaining down = IsAtEnd remaining × (down ≡ f
 LeavesSource (Some (stop.Refused Truncated)) remaining down = IsAtEnd remaining × (down ≡ false)
 LeavesSource (Some (stop.Refused fault)) remaining down = down ≡ false
 LeavesSource (Some stop.Failed) remaining down = down ≡ true
+
+-- at most `limit` bytes are read, if the unread bytes are known
+abbrev pub ReadsFew : ℕ → Change → Type 0
+ReadsFew limit read = WhereKnown read (λ old new. length old ≤ limit + length new)

@@ -5,7 +5,7 @@ ghost use Rattle.std.specs.Io.KnownBytes.{Keeps};
 ghost use Rattle.gpkt.specs.Change.{change_of};
 ghost use Rattle.gpkt.specs.Devices.{KeepsPassed, PassesAll};
 ghost use Rattle.gtalk.specs.Connections.{BreaksOff, Drives, FailsBy, HasDriven, HasRoom, HearsRead, IsDone, IsHeld, IsDownBy, LeavesSink, conversation_of, has_stopped, partial_of, pending_of};
-ghost use Rattle.gtalk.specs.Partial.{Lacks, LeavesSource};
+ghost use Rattle.gtalk.specs.Partial.{Lacks, LeavesSource, ReadsFew};
 ghost use Rattle.gtalk.specs.Talks.{AnyTalk, IsNearer};
 ghost use Rattle.gtalk.specs.steps.Driving.{IsFewer, IsLater, SaysTurn, SendsPending, reading_left};
 
@@ -330,6 +330,7 @@ pub fn hear_some<C: Conversation, A: Allocator + Copy, S: Source>(
         (conversation_of connection.new) }
     ensures fewer { reading_left C.turn C.left connection.new
         < reading_left C.turn C.left connection.old }
+    ensures few { ReadsFew limit (change_of S.remaining source.old source.new) }
     ensures pending { pending_of connection.new ≡ pending_of connection.old }
     ensures loans { S.loans source.new ≡ S.loans source.old }
 {
@@ -363,6 +364,7 @@ fn hear_into<C: Conversation, A: Allocator + Copy, S: Source>(
         (conversation_of connection.new) }
     ensures fewer { reading_left C.turn C.left connection.new
         < reading_left C.turn C.left connection.old }
+    ensures few { ReadsFew (length piece.old) (change_of S.remaining source.old source.new) }
     ensures pending { pending_of connection.new ≡ pending_of connection.old }
     ensures loans { S.loans source.new ≡ S.loans source.old }
 {

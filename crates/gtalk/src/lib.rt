@@ -28,6 +28,7 @@
 //! - [`converse`] calls the sink only in turns that queue packets, and flushes only those turns. If
 //!   it sends no byte, the sink is unchanged (`HasSent`). If the sink fails, the last turn queued at
 //!   least one packet, and all packets of earlier turns are flushed (`FailsInTurn`).
+//! - [`speak_turn`] and [`hear_some`] make one turn and one read of [`converse`].
 //! - A connection that uses the buffers of a [`Room`] does not run out of memory (`HasRoom`), until
 //!   [`Connection::give_back`] frees the send queue.
 //! - No byte after the last packet is stored, unless the conversation listens or no more packets

@@ -72,8 +72,9 @@ fn accept_from<L: OpenListener>(listener: &L, client: SocketAddr) -> Option<L::S
 ///
 /// Fails with `PairLimit` if a message would have more than [`MAX_MESSAGE`](gpair::MAX_MESSAGE)
 /// bytes. In that case no byte of the message is written, and client and server stop. Fails with
-/// `Socket` if the connection can't be opened, and with `Memory` if out of memory for its buffers
-/// or for a message. Otherwise fails with the faults of `gclient::fetch_over`.
+/// `Socket` if the connection can't be opened. Fails with `Memory` if out of memory for the buffers
+/// of the streams or of the server, or for a message. Otherwise fails with the faults of
+/// `gclient::fetch_git`, or with `Message` if the first line can't be composed.
 pub(crate) fn fetch_in_pair<A: Allocator + Copy, N>(
     net: &N,
     server: &Server<A>,

@@ -10,11 +10,11 @@ abbrev pub holding_code : {W : Type 0} → Coded W → Coded (Holding W)
 holding_code {W} code =
     code_by (W × (Bytes × (ℕ × (Bool × (Bool × Bool)))))
     (coded× code (coded× bytes_code (coded× coded_ℕ (coded× coded_bool (coded× coded_bool coded_bool)))))
-    (λ h. (h.inner, (h.held, (h.written, (h.too_long, (h.lacks_memory, h.down))))))
+    (λ h. (h.inner, (h.held, (h.flushed, (h.too_long, (h.lacks_memory, h.down))))))
     (λ p. record {
       inner = p.0;
       held = p.1.0;
-      written = p.1.1.0;
+      flushed = p.1.1.0;
       too_long = p.1.1.1.0;
       lacks_memory = p.1.1.1.1.0;
       down = p.1.1.1.1.1;
