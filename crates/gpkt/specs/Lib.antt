@@ -7,5 +7,6 @@ pub mod PacketReading
 pub mod Lending
 pub mod PacketWriting
 pub mod Sending
+pub mod Streams
 pub mod Laws
 pub mod steps
