@@ -1,7 +1,7 @@
 //! A fetch with an indexer that keeps nothing, and with the default options for packs.
 
 ghost use Rattle.std.specs.Prelude.{◌≡◌, ◌≤◌, ◌+◌, ℕ, IfOk, OnErr};
-ghost use Rattle.gpkt.specs.Sending.{input_of, output_of};
+ghost use Rattle.gpkt.specs.Streams.{SameSink, SameSource, given, taken};
 ghost use Rattle.gdag.specs.Reach.{Grows};
 ghost use Rattle.gdag.specs.Walks.{CountsReached};
 ghost use Rattle.gclientrepo.specs.Repos.{IsConnectedRepo};
@@ -46,8 +46,8 @@ pub fn fetch_over<S: Source, W: Sink, A: Allocator + Copy, K: Indexer<A>>(
 ) -> Result<Fetched<A>, FetchFault<A>>
     ensures fetches { FetchesOver K.indexes K.index_fails
         (start_of repo.old specs.now limit ends)
-        (input_of S.remaining S.is_down source.old source.new)
-        (output_of W.contents W.passed_on W.is_down sink.old sink.new) repo.new result }
+        (taken S.Source source.old source.new)
+        (given W.Sink sink.old sink.new) repo.new result }
     ensures settled { IfOk result (λ fetched. Settles repo.new.graph.entries repo.old.refs
         fetched.settled.asks fetched.settled.updates.items repo.new.refs) }
     ensures refs { OnErr result (repo.new.refs ≡ repo.old.refs) }
@@ -56,8 +56,8 @@ pub fn fetch_over<S: Source, W: Sink, A: Allocator + Copy, K: Indexer<A>>(
     ensures bound { IfOk result (λ fetched. (held parents : ℕ)
         → CountsReached repo.old.graph.entries (tips_of repo.old) held parents
         → fetched.requests ≤ held + 1) }
-    ensures source_loans { S.loans source.new ≡ S.loans source.old }
-    ensures sink_loans { W.loans sink.new ≡ W.loans sink.old }
+    ensures source_loans { SameSource S.Source source.old source.new }
+    ensures sink_loans { SameSink W.Sink sink.old sink.new }
 {
     let plan = FetchPlan {
         specs,

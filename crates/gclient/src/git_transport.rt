@@ -1,7 +1,7 @@
 //! A client's conversation over the `git://` transport, including the first line.
 
 ghost use Rattle.std.specs.Prelude.{◌≡◌, ◌≤◌, ◌+◌, ℕ, IfOk, OnErr};
-ghost use Rattle.gpkt.specs.Sending.{input_of, output_of};
+ghost use Rattle.gpkt.specs.Streams.{SameSink, SameSource, given, taken};
 ghost use Rattle.gdag.specs.Reach.{Grows};
 ghost use Rattle.gdag.specs.Walks.{CountsReached};
 ghost use Rattle.gclientrepo.specs.Repos.{IsConnectedRepo};
@@ -56,8 +56,8 @@ pub fn fetch_git<S: Source, W: Sink, A: Allocator + Copy, K: KeepingIndexer<A>>(
     ensures fetches { FetchesGit K.indexes K.index_fails
         (start_for repo.old fetch.now.specs.now fetch.now.limit fetch.now.ends fetch.now.options)
         fetch.now.hello.now
-        (input_of S.remaining S.is_down source.old source.new)
-        (output_of W.contents W.passed_on W.is_down sink.old sink.new) repo.new result }
+        (taken S.Source source.old source.new)
+        (given W.Sink sink.old sink.new) repo.new result }
     ensures settled { IfOk result (λ fetched. Settles repo.new.graph.entries repo.old.refs
         fetched.settled.asks fetched.settled.updates.items repo.new.refs) }
     ensures refs { OnErr result (repo.new.refs ≡ repo.old.refs) }
@@ -68,8 +68,8 @@ pub fn fetch_git<S: Source, W: Sink, A: Allocator + Copy, K: KeepingIndexer<A>>(
         → fetched.requests ≤ held + 1) }
     ensures keeps { KeepsOn (K.keeps indexer.old) (K.keeps indexer.new) repo.old.graph.entries
         repo.new.graph.entries }
-    ensures source_loans { S.loans source.new ≡ S.loans source.old }
-    ensures sink_loans { W.loans sink.new ≡ W.loans sink.old }
+    ensures source_loans { SameSource S.Source source.old source.new }
+    ensures sink_loans { SameSink W.Sink sink.old sink.new }
 {
     // Laws that the proof uses.
     repo.laws();

@@ -1,9 +1,8 @@
 //! The first line of a connection, as the client writes it.
 
 ghost use Rattle.std.specs.Prelude.{◌≡◌, false};
-ghost use Rattle.gpkt.specs.Sending.{output_of};
-ghost use Rattle.gclient.specs.Greetings.{HasPassed};
-ghost use Rattle.gclient.specs.Greetings.{hello_bytes};
+ghost use Rattle.gpkt.specs.Streams.{SameSink, given};
+ghost use Rattle.gclient.specs.Greetings.{HasPassed, hello_bytes};
 
 use ghello::{Hello, write_hello};
 use gpkt::laws::writes_join;
@@ -14,9 +13,9 @@ use std::alloc::Allocator;
 ///
 /// Fails if the sink fails. The sink has then received a prefix of the line.
 pub fn greet<W: Sink, A: Allocator + Copy>(hello: &Hello<A>, sink: &mut W) -> Result<(), WriteFault>
-    ensures greets { HasPassed (output_of W.contents W.passed_on W.is_down sink.old sink.new)
+    ensures greets { HasPassed (given W.Sink sink.old sink.new)
         result (hello_bytes hello.now) }
-    ensures loans { W.loans sink.new ≡ W.loans sink.old }
+    ensures loans { SameSink W.Sink sink.old sink.new }
 {
     let mut writer = PacketWriter::new(sink);
     let sent = send_hello(hello, &mut writer);
@@ -29,9 +28,8 @@ fn send_hello<W: Sink, A: Allocator + Copy>(
     writer: &mut PacketWriter<W>,
 ) -> Result<(), WriteFault>
     requires well { writer.old.failed ≡ false }
-    ensures sent { HasPassed (output_of W.contents W.passed_on W.is_down writer.old.sink
-        writer.new.sink) result (hello_bytes hello.now) }
-    ensures loans { W.loans writer.new.sink ≡ W.loans writer.old.sink }
+    ensures sent { HasPassed (given W.Sink writer.old.sink writer.new.sink) result (hello_bytes hello.now) }
+    ensures loans { SameSink W.Sink writer.old.sink writer.new.sink }
 {
     // Laws that the proof uses.
     writes_join::<W>();

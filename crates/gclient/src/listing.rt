@@ -1,7 +1,6 @@
 //! The listing of a server's refs, with a first line.
 
-ghost use Rattle.std.specs.Prelude.{◌≡◌};
-ghost use Rattle.gpkt.specs.Sending.{input_of, output_of};
+ghost use Rattle.gpkt.specs.Streams.{SameSink, SameSource, given, taken};
 ghost use Rattle.gclient.specs.Listings.{ListsGit};
 
 use crate::greeting::greet;
@@ -25,10 +24,10 @@ pub fn list_git<S: Source, W: Sink, A: Allocator + Copy>(
     alloc: A,
 ) -> Result<LsReply<A>, FetchFault<A>>
     ensures lists { ListsGit asked.asked hello.now
-        (input_of S.remaining S.is_down source.old source.new)
-        (output_of W.contents W.passed_on W.is_down sink.old sink.new) result }
-    ensures source_loans { S.loans source.new ≡ S.loans source.old }
-    ensures sink_loans { W.loans sink.new ≡ W.loans sink.old }
+        (taken S.Source source.old source.new)
+        (given W.Sink sink.old sink.new) result }
+    ensures source_loans { SameSource S.Source source.old source.new }
+    ensures sink_loans { SameSink W.Sink sink.old sink.new }
 {
     match greet(hello, sink) {
         Ok(()) => list_over(source, sink, asked, alloc),

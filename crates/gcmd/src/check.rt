@@ -3,8 +3,8 @@
 ghost use Rattle.std.specs.Prelude.{◌≡◌, ◌≤◌, [], length, IfOk};
 ghost use Rattle.gcmd.specs.Checking.{report_line, yes_or_no, Checks, IsReport};
 ghost use Rattle.gcmd.specs.Programs.{Runs};
-ghost use Rattle.gpkt.specs.Sending.{output_of};
-ghost use Rattle.gcmd.specs.Outputs.{IsSent};
+ghost use Rattle.gpkt.specs.Streams.{given, OnSink, SameSink};
+ghost use Rattle.gcmd.specs.steps.Outputs.{SendsTo};
 
 use crate::compose::add_number;
 use crate::fault::ProgramFault;
@@ -34,10 +34,10 @@ pub fn cmd_check<A: Allocator + Copy, W: Sink, E: Sink>(
     errors: &mut E,
 ) -> u8
     ensures runs { Runs {A = A} (Checks file.now
-        (output_of W.contents W.passed_on W.is_down output.old output.new))
-        (output_of E.contents E.passed_on E.is_down errors.old errors.new) result }
-    ensures output_loans { W.loans output.new ≡ W.loans output.old }
-    ensures errors_loans { E.loans errors.new ≡ E.loans errors.old }
+        (given W.Sink output.old output.new))
+        (given E.Sink errors.old errors.new) result }
+    ensures output_loans { SameSink W.Sink output.old output.new }
+    ensures errors_loans { SameSink E.Sink errors.old errors.new }
 {
     finish(check(alloc, file, output), errors)
 }
@@ -48,9 +48,7 @@ fn check<A: Allocator + Copy, W: Sink>(
     file: &[u8],
     output: &mut W,
 ) -> Result<(), ProgramFault<A>>
-    ensures checks { Checks file.now (output_of W.contents W.passed_on W.is_down output.old
-        output.new) result }
-    ensures loans { W.loans output.new ≡ W.loans output.old }
+    ensures { OnSink W.Sink output.old output.new (λ written. Checks file.now written result) }
 {
     let repo = load(alloc, file, Order::Any)?;
     let report = match report_of(&repo) {
@@ -86,9 +84,7 @@ fn report_of<A: Allocator + Copy>(repo: &Repository<A>) -> Result<Report, GraphF
 }
 
 fn send_report<W: Sink>(report: &Report, output: &mut W) -> Result<(), Down>
-    ensures sent { IsSent (output_of W.contents W.passed_on W.is_down output.old output.new) result
-        (report_line report.now) }
-    ensures loans { W.loans output.new ≡ W.loans output.old }
+    ensures { SendsTo W.Sink output.old output.new result (report_line report.now) }
 {
     let mut text = ArrayVec::new();
     compose_report(report, &mut text);

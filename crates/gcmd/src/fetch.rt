@@ -3,10 +3,10 @@
 ghost use Rattle.std.specs.Prelude.{◌≡◌, MatchResult, length, option_map};
 ghost use Rattle.gpkt.specs.Packets.{Bytes};
 ghost use Rattle.ggraph.specs.declared.fault.SaveFault.TheVariants.{Memory};
-ghost use Rattle.gpkt.specs.Sending.{input_of, output_of};
 ghost use Rattle.gclientrepo.specs.Repos.{RepoState};
 ghost use Rattle.gcmd.specs.Fetching.{Concludes, FetchesFile, IsFetched, IsFetchedInto, NamesClient, Reports, SendsReport};
 ghost use Rattle.gcmd.specs.Programs.{Runs};
+ghost use Rattle.gpkt.specs.Streams.{given, OnBoth, OnSink, SameSink, SameSource, taken};
 
 use crate::client_file::open_client;
 use crate::fault::ProgramFault;
@@ -54,15 +54,15 @@ pub fn cmd_fetch<A: Allocator + Copy, S: Source, W: Sink, R: Sink, E: Sink>(
     errors: &mut E,
 ) -> FetchRun<A>
     ensures runs { Runs {A = A} (FetchesFile file.now specs.now limit ends
-        (input_of S.remaining S.is_down input.old input.new)
-        (output_of W.contents W.passed_on W.is_down output.old output.new)
-        (output_of R.contents R.passed_on R.is_down report.old report.new)
+        (taken S.Source input.old input.new)
+        (given W.Sink output.old output.new)
+        (given R.Sink report.old report.new)
         (option_map (λ text. text.items) result.file))
-        (output_of E.contents E.passed_on E.is_down errors.old errors.new) result.status }
-    ensures input_loans { S.loans input.new ≡ S.loans input.old }
-    ensures output_loans { W.loans output.new ≡ W.loans output.old }
-    ensures report_loans { R.loans report.new ≡ R.loans report.old }
-    ensures errors_loans { E.loans errors.new ≡ E.loans errors.old }
+        (given E.Sink errors.old errors.new) result.status }
+    ensures input_loans { SameSource S.Source input.old input.new }
+    ensures output_loans { SameSink W.Sink output.old output.new }
+    ensures report_loans { SameSink R.Sink report.old report.new }
+    ensures errors_loans { SameSink E.Sink errors.old errors.new }
 {
     let fetch = FileFetch {
         file,
@@ -95,14 +95,10 @@ fn fetch_into<A: Allocator + Copy, S: Source, W: Sink, R: Sink>(
     output: &mut W,
     report: &mut R,
 ) -> (Result<(), ProgramFault<A>>, Option<Vec<u8, A>>)
-    ensures fetches { FetchesFile {A = A} fetch.now.file.now fetch.now.specs.now fetch.now.limit
-        fetch.now.ends (input_of S.remaining S.is_down input.old input.new)
-        (output_of W.contents W.passed_on W.is_down output.old output.new)
-        (output_of R.contents R.passed_on R.is_down report.old report.new)
-        (option_map (λ text. text.items) result.1) result.0 }
-    ensures input_loans { S.loans input.new ≡ S.loans input.old }
-    ensures output_loans { W.loans output.new ≡ W.loans output.old }
-    ensures report_loans { R.loans report.new ≡ R.loans report.old }
+    ensures { OnBoth S.Source input.old input.new W.Sink output.old output.new
+        (λ read written. OnSink R.Sink report.old report.new (λ told. FetchesFile {A = A}
+        fetch.now.file.now fetch.now.specs.now fetch.now.limit fetch.now.ends read written told
+        (option_map (λ text. text.items) result.1) result.0)) }
 {
     match open_client(alloc, fetch.file) {
         Ok(mut repo) => fetch_for(&mut repo, fetch, input, output, report),
@@ -119,15 +115,11 @@ fn fetch_for<A: Allocator + Copy, S: Source, W: Sink, R: Sink>(
     output: &mut W,
     report: &mut R,
 ) -> (Result<(), ProgramFault<A>>, Option<Vec<u8, A>>)
-    ensures fetches { (file : Bytes) → NamesClient file repo.old
-        → IsFetched {A = A} file fetch.now.specs.now fetch.now.limit fetch.now.ends
-        (input_of S.remaining S.is_down input.old input.new)
-        (output_of W.contents W.passed_on W.is_down output.old output.new)
-        (output_of R.contents R.passed_on R.is_down report.old report.new)
-        (option_map (λ text. text.items) result.1) result.0 }
-    ensures input_loans { S.loans input.new ≡ S.loans input.old }
-    ensures output_loans { W.loans output.new ≡ W.loans output.old }
-    ensures report_loans { R.loans report.new ≡ R.loans report.old }
+    ensures { OnBoth S.Source input.old input.new W.Sink output.old output.new
+        (λ read written. OnSink R.Sink report.old report.new (λ told. (file : Bytes)
+        → NamesClient file repo.old → IsFetched {A = A} file fetch.now.specs.now fetch.now.limit
+        fetch.now.ends read written told
+        (option_map (λ text. text.items) result.1) result.0)) }
 {
     let alloc = repo.graph().allocator();
     match fetch_over(
@@ -155,9 +147,9 @@ pub fn conclude<A: Allocator + Copy, R: Sink>(
 ) -> (Result<(), ProgramFault<A>>, Option<Vec<u8, A>>)
     requires { length fetched.now.settled.updates.items ≡ length fetched.now.settled.asks }
     ensures concludes { (before : RepoState A) → IsFetchedInto before repo.now fetched.now
-        → Concludes before repo.now fetched.now (output_of R.contents R.passed_on R.is_down
+        → Concludes before repo.now fetched.now (given R.Sink
         report.old report.new) (option_map (λ text. text.items) result.1) result.0 }
-    ensures loans { R.loans report.new ≡ R.loans report.old }
+    ensures loans { SameSink R.Sink report.old report.new }
 {
     match text_of(alloc, repo) {
         Ok(text) => (send_report(alloc, fetched, report), Some(text)),
@@ -191,9 +183,9 @@ pub fn send_report<A: Allocator + Copy, R: Sink>(
     report: &mut R,
 ) -> Result<(), ProgramFault<A>>
     requires { length fetched.now.settled.updates.items ≡ length fetched.now.settled.asks }
-    ensures reports { Reports fetched.now (output_of R.contents R.passed_on R.is_down report.old
+    ensures reports { Reports fetched.now (given R.Sink report.old
         report.new) result }
-    ensures loans { R.loans report.new ≡ R.loans report.old }
+    ensures loans { SameSink R.Sink report.old report.new }
 {
     match report_of(alloc, fetched) {
         Ok(text) => send_text(text.as_slice(), report),
@@ -209,8 +201,8 @@ pub fn send_text<A: Allocator + Copy, R: Sink>(
     report: &mut R,
 ) -> Result<(), ProgramFault<A>>
     ensures sends { SendsReport {A = A} text.now
-        (output_of R.contents R.passed_on R.is_down report.old report.new) result }
-    ensures loans { R.loans report.new ≡ R.loans report.old }
+        (given R.Sink report.old report.new) result }
+    ensures loans { SameSink R.Sink report.old report.new }
 {
     match send(text, report) {
         Ok(()) => Ok(()),

@@ -7,8 +7,8 @@ ghost use Rattle.gpkt.specs.Packets.{packet_of};
 ghost use Rattle.gcmd.specs.steps.Lines.{chunk, ShowsEach, HasPassed};
 ghost use Rattle.gcmd.specs.Lines.{digits_part, shown_line, ShowsLines};
 ghost use Rattle.gcmd.specs.Programs.{Runs};
-ghost use Rattle.gpkt.specs.Sending.{input_of, output_of};
-ghost use Rattle.gcmd.specs.steps.Outputs.{IsPut};
+ghost use Rattle.gpkt.specs.Streams.{given, OnBoth, SameSink, SameSource, taken};
+ghost use Rattle.gcmd.specs.steps.Outputs.{Puts};
 
 use crate::compose::add_number;
 use crate::fault::ProgramFault;
@@ -40,12 +40,12 @@ pub fn cmd_lines<A: Allocator + Copy, S: Source, W: Sink, E: Sink>(
     output: &mut W,
     errors: &mut E,
 ) -> u8
-    ensures runs { Runs {A = A} (ShowsLines (input_of S.remaining S.is_down input.old input.new)
-        (output_of W.contents W.passed_on W.is_down output.old output.new))
-        (output_of E.contents E.passed_on E.is_down errors.old errors.new) result }
-    ensures input_loans { S.loans input.new ≡ S.loans input.old }
-    ensures output_loans { W.loans output.new ≡ W.loans output.old }
-    ensures errors_loans { E.loans errors.new ≡ E.loans errors.old }
+    ensures runs { Runs {A = A} (ShowsLines (taken S.Source input.old input.new)
+        (given W.Sink output.old output.new))
+        (given E.Sink errors.old errors.new) result }
+    ensures input_loans { SameSource S.Source input.old input.new }
+    ensures output_loans { SameSink W.Sink output.old output.new }
+    ensures errors_loans { SameSink E.Sink errors.old errors.new }
 {
     finish(show_lines(alloc, input, output), errors)
 }
@@ -56,10 +56,8 @@ fn show_lines<A: Allocator + Copy, S: Source, W: Sink>(
     input: &mut S,
     output: &mut W,
 ) -> Result<(), ProgramFault<A>>
-    ensures shows { ShowsLines (input_of S.remaining S.is_down input.old input.new)
-        (output_of W.contents W.passed_on W.is_down output.old output.new) result }
-    ensures input_loans { S.loans input.new ≡ S.loans input.old }
-    ensures output_loans { W.loans output.new ≡ W.loans output.old }
+    ensures { OnBoth S.Source input.old input.new W.Sink output.old output.new
+        (λ read written. ShowsLines {A = A} read written result) }
 {
     let buffer = PacketBuffer::new(alloc)?;
     let mut reader = PacketReader::with_buffer(buffer, input);
@@ -78,10 +76,8 @@ fn pass_each<A: Allocator + Copy, S: Source, W: Sink>(
     output: &mut W,
 ) -> Result<Result<(), PacketFault>, Down>
     requires { reader.old.failed ≡ false }
-    ensures passed { HasPassed (input_of S.remaining S.is_down reader.old.source reader.new.source)
-        (output_of W.contents W.passed_on W.is_down output.old output.new) result }
-    ensures input_loans { S.loans reader.new.source ≡ S.loans reader.old.source }
-    ensures output_loans { W.loans output.new ≡ W.loans output.old }
+    ensures { OnBoth S.Source reader.old.source reader.new.source W.Sink output.old output.new
+        (λ read written. HasPassed read written result) }
 {
     let ended = show_each(reader, output)?;
     output.flush()?;
@@ -94,10 +90,8 @@ fn show_each<A: Allocator + Copy, S: Source, W: Sink>(
     output: &mut W,
 ) -> Result<Result<(), PacketFault>, Down>
     requires { reader.old.failed ≡ false }
-    ensures shows { ShowsEach (input_of S.remaining S.is_down reader.old.source reader.new.source)
-        (output_of W.contents W.passed_on W.is_down output.old output.new) result }
-    ensures input_loans { S.loans reader.new.source ≡ S.loans reader.old.source }
-    ensures output_loans { W.loans output.new ≡ W.loans output.old }
+    ensures { OnBoth S.Source reader.old.source reader.new.source W.Sink output.old output.new
+        (λ read written. ShowsEach read written result) }
 {
     // Laws that the proof uses.
     laws::reads_join();
@@ -116,9 +110,7 @@ fn show_each<A: Allocator + Copy, S: Source, W: Sink>(
 }
 
 fn show_line<W: Sink>(line: Packet<'_>, output: &mut W) -> Result<(), Down>
-    ensures shown { IsPut (output_of W.contents W.passed_on W.is_down output.old output.new) result
-        (shown_line (packet_of line.entry)) }
-    ensures loans { W.loans output.new ≡ W.loans output.old }
+    ensures { Puts W.Sink output.old output.new result (shown_line (packet_of line.entry)) }
 {
     match line {
         Packet::Data(payload) => show_data(payload, output),
@@ -129,10 +121,9 @@ fn show_line<W: Sink>(line: Packet<'_>, output: &mut W) -> Result<(), Down>
 }
 
 fn show_data<W: Sink>(payload: &[u8], output: &mut W) -> Result<(), Down>
-    ensures shown { IsPut (output_of W.contents W.passed_on W.is_down output.old output.new) result
+    ensures { Puts W.Sink output.old output.new result
         ((codes "data " ++ decimal (length payload.now))
         ++ (digits_part payload.now ++ codes "\n")) }
-    ensures loans { W.loans output.new ≡ W.loans output.old }
 {
     let mut head = ArrayVec::new();
     compose_head(payload.len(), &mut head);
@@ -152,9 +143,7 @@ fn compose_head(len: usize, head: &mut ArrayVec<u8, MAX_DATA_HEAD>)
 
 // Writes a space and the digits of the payload, unless the payload is empty.
 fn show_digits<W: Sink>(payload: &[u8], output: &mut W) -> Result<(), Down>
-    ensures shown { IsPut (output_of W.contents W.passed_on W.is_down output.old output.new) result
-        (digits_part payload.now) }
-    ensures loans { W.loans output.new ≡ W.loans output.old }
+    ensures { Puts W.Sink output.old output.new result (digits_part payload.now) }
 {
     if payload.is_empty() {
         return Ok(());
@@ -165,9 +154,7 @@ fn show_digits<W: Sink>(payload: &[u8], output: &mut W) -> Result<(), Down>
 
 // Writes the hexadecimal digits of the bytes, chunk by chunk.
 fn put_digits<W: Sink>(bytes: &[u8], output: &mut W) -> Result<(), Down>
-    ensures put { IsPut (output_of W.contents W.passed_on W.is_down output.old output.new) result
-        (encode_lower bytes.now) }
-    ensures loans { W.loans output.new ≡ W.loans output.old }
+    ensures { Puts W.Sink output.old output.new result (encode_lower bytes.now) }
 {
     let mut rest = bytes;
     while !rest.is_empty() {
@@ -180,9 +167,7 @@ fn put_digits<W: Sink>(bytes: &[u8], output: &mut W) -> Result<(), Down>
 
 fn put_chunk<W: Sink>(bytes: &[u8], output: &mut W) -> Result<(), Down>
     requires { length bytes.now ≤ chunk }
-    ensures put { IsPut (output_of W.contents W.passed_on W.is_down output.old output.new) result
-        (encode_lower bytes.now) }
-    ensures loans { W.loans output.new ≡ W.loans output.old }
+    ensures { Puts W.Sink output.old output.new result (encode_lower bytes.now) }
 {
     let mut buffer = [0u8; 2 * CHUNK];
     let digits = &mut buffer[..2 * bytes.len()];

@@ -7,8 +7,7 @@ ghost use Rattle.std.specs.Option.{option_copied};
 ghost use Rattle.gcmd.specs.Faults.{id_in_build, id_in_graph, id_in_request, frame_in_request, line_in_text, place_in_name, printed_of, printed_of_build, printed_of_client, printed_of_fetch, printed_of_name, printed_of_request, printed_of_text, ref_in_build, said_in, said_in_request};
 ghost use Rattle.gcmd.specs.steps.Printing.{max_decimal, max_fault_line, max_fault_name, max_subject, row_view, IsShort, IsShortText};
 ghost use Rattle.gcmd.specs.Printing.{number_part, printed_line, printable, subject_part};
-ghost use Rattle.gpkt.specs.Sending.{output_of};
-ghost use Rattle.gcmd.specs.Outputs.{IsSent};
+ghost use Rattle.gcmd.specs.steps.Outputs.{SendsTo};
 
 use crate::client_fault::{frame_in_client, id_in_client, line_in_client, text_in_client};
 use crate::compose::add_number;
@@ -179,9 +178,7 @@ impl<'a> FaultLine<'a> {
     /// printed.
     pub(crate) fn print<E: Sink>(&self, errors: &mut E) -> Result<(), Down>
         requires { IsShort self.now }
-        ensures sent { IsSent (output_of E.contents E.passed_on E.is_down errors.old errors.new)
-            result (printed_line (row_view self.now)) }
-        ensures loans { E.loans errors.new ≡ E.loans errors.old }
+        ensures { SendsTo E.Sink errors.old errors.new result (printed_line (row_view self.now)) }
     {
         let mut text = ArrayVec::new();
         self.compose(&mut text);

@@ -1,10 +1,10 @@
 //! The end of a program: its printed fault, and its exit status.
 
-ghost use Rattle.std.specs.Prelude.{◌≡◌, Err};
+ghost use Rattle.std.specs.Prelude.{Err};
 ghost use Rattle.gcmd.specs.Outputs.{IsSent};
 ghost use Rattle.gcmd.specs.Printing.{fault_line};
 ghost use Rattle.gcmd.specs.Programs.{ExitsWith};
-ghost use Rattle.gpkt.specs.Sending.{output_of};
+ghost use Rattle.gpkt.specs.Streams.{given, SameSink};
 
 use crate::fault::ProgramFault;
 use crate::print::FaultLine;
@@ -15,8 +15,8 @@ use std::alloc::Allocator;
 /// failure of `errors` itself is not reported.
 pub fn cmd_failed<A: Allocator + Copy, E: Sink>(fault: ProgramFault<A>, errors: &mut E) -> u8
     ensures exits { ExitsWith (Err fault)
-        (output_of E.contents E.passed_on E.is_down errors.old errors.new) result }
-    ensures loans { E.loans errors.new ≡ E.loans errors.old }
+        (given E.Sink errors.old errors.new) result }
+    ensures loans { SameSink E.Sink errors.old errors.new }
 {
     let _ = print_fault(&fault, errors);
     1
@@ -28,9 +28,9 @@ pub fn print_fault<A: Allocator + Copy, E: Sink>(
     fault: &ProgramFault<A>,
     errors: &mut E,
 ) -> Result<(), Down>
-    ensures printed { IsSent (output_of E.contents E.passed_on E.is_down errors.old errors.new)
+    ensures printed { IsSent (given E.Sink errors.old errors.new)
         result (fault_line fault.now) }
-    ensures loans { E.loans errors.new ≡ E.loans errors.old }
+    ensures loans { SameSink E.Sink errors.old errors.new }
 {
     FaultLine::of(fault).print(errors)
 }
@@ -41,8 +41,8 @@ pub fn finish<A: Allocator + Copy, E: Sink>(
     errors: &mut E,
 ) -> u8
     ensures exits { ExitsWith outcome
-        (output_of E.contents E.passed_on E.is_down errors.old errors.new) result }
-    ensures loans { E.loans errors.new ≡ E.loans errors.old }
+        (given E.Sink errors.old errors.new) result }
+    ensures loans { SameSink E.Sink errors.old errors.new }
 {
     match outcome {
         Ok(()) => 0,

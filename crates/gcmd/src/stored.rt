@@ -2,11 +2,11 @@
 
 ghost use Rattle.std.specs.Prelude.{◌≡◌, Err, Ok, MatchResult, length};
 ghost use Rattle.gpkt.specs.Packets.{Bytes};
-ghost use Rattle.gpkt.specs.Sending.{input_of, output_of};
 ghost use Rattle.glockfile.specs.Storing.{Holds};
 ghost use Rattle.glockfile.specs.declared.storage.Lockfile.TheVariants.{Absent, Empty};
 ghost use Rattle.gcmd.specs.Fetching.{NamesClient};
 ghost use Rattle.gcmd.specs.steps.Stored.{ExitsNext, StoresAndReports};
+ghost use Rattle.gpkt.specs.Streams.{given, OnBoth, OnSink, SameSink, SameSource, taken};
 ghost use Rattle.gcmd.specs.Stored.{ConcludesStored, FetchesStored, IsFetchedStored, IsReplaced, OpensStored, ReportsAndExits, stored_of};
 
 use crate::client_file::open_client;
@@ -61,12 +61,12 @@ pub fn cmd_fetch_stored<A: Allocator + Copy, T: Storage, S: Source, W: Sink, E: 
     requires { T.lockfile file.old ≡ Absent }
     ensures runs { ReportsAndExits {A = A} (FetchesStored fetch.now.specs.now fetch.now.limit
         fetch.now.ends (stored_of T.texts T.lockfile file.old file.new)
-        (input_of S.remaining S.is_down input.old input.new)
-        (output_of W.contents W.passed_on W.is_down output.old output.new))
-        (output_of E.contents E.passed_on E.is_down errors.old errors.new) result }
-    ensures input_loans { S.loans input.new ≡ S.loans input.old }
-    ensures output_loans { W.loans output.new ≡ W.loans output.old }
-    ensures errors_loans { E.loans errors.new ≡ E.loans errors.old }
+        (taken S.Source input.old input.new)
+        (given W.Sink output.old output.new))
+        (given E.Sink errors.old errors.new) result }
+    ensures input_loans { SameSource S.Source input.old input.new }
+    ensures output_loans { SameSink W.Sink output.old output.new }
+    ensures errors_loans { SameSink E.Sink errors.old errors.new }
 {
     let outcome = fetch_stored(alloc, file, fetch, input, output, errors);
     exit_after(outcome, errors)
@@ -78,9 +78,7 @@ fn exit_after<A: Allocator + Copy, E: Sink>(
     outcome: Result<(), ProgramFault<A>>,
     errors: &mut E,
 ) -> u8
-    ensures exits { ExitsNext outcome
-        (output_of E.contents E.passed_on E.is_down errors.old errors.new) result }
-    ensures loans { E.loans errors.new ≡ E.loans errors.old }
+    ensures { OnSink E.Sink errors.old errors.new (λ written. ExitsNext outcome written result) }
 {
     match outcome {
         Ok(()) => 0,
@@ -100,14 +98,10 @@ fn fetch_stored<A: Allocator + Copy, T: Storage, S: Source, W: Sink, R: Sink>(
     report: &mut R,
 ) -> Result<(), ProgramFault<A>>
     requires { T.lockfile file.old ≡ Absent }
-    ensures fetches { FetchesStored {A = A} fetch.now.specs.now fetch.now.limit
-        fetch.now.ends (stored_of T.texts T.lockfile file.old file.new)
-        (input_of S.remaining S.is_down input.old input.new)
-        (output_of W.contents W.passed_on W.is_down output.old output.new)
-        (output_of R.contents R.passed_on R.is_down report.old report.new) result }
-    ensures input_loans { S.loans input.new ≡ S.loans input.old }
-    ensures output_loans { W.loans output.new ≡ W.loans output.old }
-    ensures report_loans { R.loans report.new ≡ R.loans report.old }
+    ensures { OnBoth S.Source input.old input.new W.Sink output.old output.new
+        (λ read written. OnSink R.Sink report.old report.new (λ told. FetchesStored {A = A}
+        fetch.now.specs.now fetch.now.limit fetch.now.ends
+        (stored_of T.texts T.lockfile file.old file.new) read written told result)) }
 {
     match open_stored(alloc, file) {
         Ok(mut opened) => fetch_opened(&mut opened, file, fetch, input, output, report),
@@ -125,17 +119,13 @@ fn fetch_opened<A: Allocator + Copy, T: Storage, S: Source, W: Sink, R: Sink>(
     report: &mut R,
 ) -> Result<(), ProgramFault<A>>
     requires { T.lockfile file.old ≡ Empty }
-    ensures fetches { Holds (T.texts file.old) opened.old.text.items
+    ensures fetches { OnBoth S.Source input.old input.new W.Sink output.old output.new
+        (λ read written. OnSink R.Sink report.old report.new (λ told.
+        Holds (T.texts file.old) opened.old.text.items
         → NamesClient opened.old.text.items opened.old.repo
         → IsFetchedStored {A = A} fetch.now.specs.now fetch.now.limit
-        fetch.now.ends (stored_of T.texts T.lockfile file.old file.new)
-        (input_of S.remaining S.is_down input.old input.new)
-        (output_of W.contents W.passed_on W.is_down output.old output.new)
-        (output_of R.contents R.passed_on R.is_down report.old report.new) result }
+        fetch.now.ends (stored_of T.texts T.lockfile file.old file.new) read written told result)) }
     ensures lockfile { T.lockfile file.new ≡ Absent }
-    ensures input_loans { S.loans input.new ≡ S.loans input.old }
-    ensures output_loans { W.loans output.new ≡ W.loans output.old }
-    ensures report_loans { R.loans report.new ≡ R.loans report.old }
 {
     match fetch_over(
         &mut opened.repo,
@@ -224,9 +214,9 @@ pub fn conclude_stored<A: Allocator + Copy, T: Storage, R: Sink>(
     ensures concludes { Holds (T.texts file.old) old.now
         → ConcludesStored old.now repo.now fetched.now
         (stored_of T.texts T.lockfile file.old file.new)
-        (output_of R.contents R.passed_on R.is_down report.old report.new) result }
+        (given R.Sink report.old report.new) result }
     ensures lockfile { T.lockfile file.new ≡ Absent }
-    ensures report_loans { R.loans report.new ≡ R.loans report.old }
+    ensures report_loans { SameSink R.Sink report.old report.new }
 {
     match text_of(repo.graph().allocator(), repo) {
         Ok(text) => store(file, old, &text, fetched, report),
@@ -244,12 +234,10 @@ fn store<A: Allocator + Copy, T: Storage, R: Sink>(
 ) -> Result<(), ProgramFault<A>>
     requires locked { T.lockfile file.old ≡ Empty }
     requires updates { length fetched.now.settled.updates.items ≡ length fetched.now.settled.asks }
-    ensures stores { Holds (T.texts file.old) old.now
+    ensures stores { OnSink R.Sink report.old report.new (λ told. Holds (T.texts file.old) old.now
         → StoresAndReports old.now text.now.items fetched.now
-        (stored_of T.texts T.lockfile file.old file.new)
-        (output_of R.contents R.passed_on R.is_down report.old report.new) result }
+        (stored_of T.texts T.lockfile file.old file.new) told result) }
     ensures lockfile { T.lockfile file.new ≡ Absent }
-    ensures report_loans { R.loans report.new ≡ R.loans report.old }
 {
     match replace_file(file, old, text.as_slice()) {
         Ok(()) => send_report(*text.allocator(), fetched, report),

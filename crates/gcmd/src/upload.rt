@@ -3,7 +3,7 @@
 ghost use Rattle.std.specs.Prelude.{◌≡◌};
 ghost use Rattle.gcmd.specs.Programs.{Runs};
 ghost use Rattle.gcmd.specs.Serving.{outcome_of_connection, ServesConnection};
-ghost use Rattle.gpkt.specs.Sending.{input_of, output_of};
+ghost use Rattle.gpkt.specs.Streams.{given, OnBoth, SameSink, SameSource, taken};
 
 use crate::fault::ProgramFault;
 use crate::program::finish;
@@ -31,12 +31,12 @@ pub fn cmd_upload<A: Allocator + Copy, S: Source, W: Sink, E: Sink>(
     errors: &mut E,
 ) -> u8
     ensures runs { Runs {A = A} (ServesConnection file.now ends
-        (input_of S.remaining S.is_down input.old input.new)
-        (output_of W.contents W.passed_on W.is_down output.old output.new))
-        (output_of E.contents E.passed_on E.is_down errors.old errors.new) result }
-    ensures input_loans { S.loans input.new ≡ S.loans input.old }
-    ensures output_loans { W.loans output.new ≡ W.loans output.old }
-    ensures errors_loans { E.loans errors.new ≡ E.loans errors.old }
+        (taken S.Source input.old input.new)
+        (given W.Sink output.old output.new))
+        (given E.Sink errors.old errors.new) result }
+    ensures input_loans { SameSource S.Source input.old input.new }
+    ensures output_loans { SameSink W.Sink output.old output.new }
+    ensures errors_loans { SameSink E.Sink errors.old errors.new }
 {
     finish(answer_all(alloc, file, ends, input, output), errors)
 }
@@ -49,11 +49,8 @@ fn answer_all<A: Allocator + Copy, S: Source, W: Sink>(
     input: &mut S,
     output: &mut W,
 ) -> Result<(), ProgramFault<A>>
-    ensures serves { ServesConnection file.now ends
-        (input_of S.remaining S.is_down input.old input.new)
-        (output_of W.contents W.passed_on W.is_down output.old output.new) result }
-    ensures input_loans { S.loans input.new ≡ S.loans input.old }
-    ensures output_loans { W.loans output.new ≡ W.loans output.old }
+    ensures { OnBoth S.Source input.old input.new W.Sink output.old output.new
+        (λ read written. ServesConnection {A = A} file.now ends read written result) }
 {
     let server = load_server(alloc, file)?;
     let mut packer = OnePack::new(&PlainPack);

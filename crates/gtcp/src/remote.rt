@@ -3,7 +3,7 @@
 ghost use Rattle.std.specs.Prelude.{◌≡◌, IfOk};
 ghost use Rattle.gpkt.specs.Packets.{Bytes};
 ghost use Rattle.gdag.specs.Reach.{Grows};
-ghost use Rattle.gpkt.specs.Sending.{output_of};
+ghost use Rattle.gpkt.specs.Streams.{given, OnSink, SameSink};
 ghost use Rattle.gclientrepo.specs.Settling.{Settles};
 ghost use Rattle.gcmd.specs.Fetching.{NamesClient};
 ghost use Rattle.gcmd.specs.Programs.{Runs};
@@ -66,12 +66,12 @@ pub fn cmd_serve<A: Allocator + Copy, N, W: Sink, E: Sink>(
 ) -> u8
 where
     N: Net + Clock,
-    ensures runs { RunsServing A (output_of E.contents E.passed_on E.is_down) errors.old errors.new
+    ensures runs { RunsServing A (given E.Sink) errors.old errors.new
         (ServesRemote service.now.file.now service.now.place.now.hello.path service.now.ends
-        service.now.connections (output_of W.contents W.passed_on W.is_down output.old output.new))
+        service.now.connections (given W.Sink output.old output.new))
         result }
-    ensures output_loans { W.loans output.new ≡ W.loans output.old }
-    ensures errors_loans { E.loans errors.new ≡ E.loans errors.old }
+    ensures output_loans { SameSink W.Sink output.old output.new }
+    ensures errors_loans { SameSink E.Sink errors.old errors.new }
 {
     let outcome = serve_all(net, alloc, service, output, errors);
     finish(outcome, errors)
@@ -87,12 +87,9 @@ fn serve_all<A: Allocator + Copy, N, W: Sink, E: Sink>(
 ) -> Result<(), ProgramFault<A>>
 where
     N: Net + Clock,
-    ensures serves { ServesRemote service.now.file.now service.now.place.now.hello.path
-        service.now.ends
-        service.now.connections (output_of W.contents W.passed_on W.is_down output.old output.new)
-        (output_of E.contents E.passed_on E.is_down errors.old errors.new) result }
-    ensures output_loans { W.loans output.new ≡ W.loans output.old }
-    ensures errors_loans { E.loans errors.new ≡ E.loans errors.old }
+    ensures { OnSink W.Sink output.old output.new (λ written. OnSink E.Sink errors.old errors.new
+        (λ printed. ServesRemote service.now.file.now service.now.place.now.hello.path
+        service.now.ends service.now.connections written printed result)) }
 {
     match load_server(alloc, service.file) {
         Ok(server) => serve_at(net, &server, service, output, errors),
@@ -111,12 +108,10 @@ fn serve_at<A: Allocator + Copy, N, W: Sink, E: Sink>(
 ) -> Result<(), ProgramFault<A>>
 where
     N: Net + Clock,
-    ensures serves { (file : Bytes) → NamesServer file server.now
+    ensures { OnSink W.Sink output.old output.new (λ written. OnSink E.Sink errors.old errors.new
+        (λ printed. (file : Bytes) → NamesServer file server.now
         → ServesRemote file service.now.place.now.hello.path service.now.ends
-        service.now.connections (output_of W.contents W.passed_on W.is_down output.old output.new)
-        (output_of E.contents E.passed_on E.is_down errors.old errors.new) result }
-    ensures output_loans { W.loans output.new ≡ W.loans output.old }
-    ensures errors_loans { E.loans errors.new ≡ E.loans errors.old }
+        service.now.connections written printed result)) }
 {
     let Ok(listener) = TcpListener::bind(net, service.place.address()) else {
         return Err(ProgramFault::Socket);
@@ -142,9 +137,7 @@ fn announce<A: Allocator + Copy, L: OpenListener, W: Sink>(
     listener: &L,
     output: &mut W,
 ) -> Result<(), ProgramFault<A>>
-    ensures announces { Announces {A = A} (output_of W.contents W.passed_on W.is_down output.old
-        output.new) result }
-    ensures loans { W.loans output.new ≡ W.loans output.old }
+    ensures { OnSink W.Sink output.old output.new (λ written. Announces {A = A} written result) }
 {
     match listener.local_addr() {
         Ok(address) => show_port(alloc, address.port(), output),
@@ -157,9 +150,7 @@ fn show_port<A: Allocator + Copy, W: Sink>(
     port: u16,
     output: &mut W,
 ) -> Result<(), ProgramFault<A>>
-    ensures announces { Announces {A = A} (output_of W.contents W.passed_on W.is_down output.old
-        output.new) result }
-    ensures loans { W.loans output.new ≡ W.loans output.old }
+    ensures { OnSink W.Sink output.old output.new (λ written. Announces {A = A} written result) }
 {
     match format!(in alloc; "listening {port}\n") {
         Ok(line) => send_text(line.as_bytes(), output),
@@ -195,10 +186,10 @@ pub fn cmd_ls_remote<A: Allocator + Copy, N, W: Sink, E: Sink>(
 where
     N: Net,
     ensures runs { Runs {A = A} (ListsRemote listing.now.prefixes.now listing.now.place.now.hello
-        (output_of W.contents W.passed_on W.is_down output.old output.new))
-        (output_of E.contents E.passed_on E.is_down errors.old errors.new) result }
-    ensures output_loans { W.loans output.new ≡ W.loans output.old }
-    ensures errors_loans { E.loans errors.new ≡ E.loans errors.old }
+        (given W.Sink output.old output.new))
+        (given E.Sink errors.old errors.new) result }
+    ensures output_loans { SameSink W.Sink output.old output.new }
+    ensures errors_loans { SameSink E.Sink errors.old errors.new }
 {
     finish(list_remote(net, alloc, listing, output), errors)
 }
@@ -211,9 +202,8 @@ fn list_remote<A: Allocator + Copy, N, W: Sink>(
 ) -> Result<(), ProgramFault<A>>
 where
     N: Net,
-    ensures lists { ListsRemote {A = A} listing.now.prefixes.now listing.now.place.now.hello
-        (output_of W.contents W.passed_on W.is_down output.old output.new) result }
-    ensures loans { W.loans output.new ≡ W.loans output.old }
+    ensures { OnSink W.Sink output.old output.new (λ written. ListsRemote {A = A}
+        listing.now.prefixes.now listing.now.place.now.hello written result) }
 {
     match ask_remote(net, alloc, listing) {
         Ok(reply) => show_reply(alloc, &reply, output),
@@ -250,9 +240,8 @@ fn show_reply<A: Allocator + Copy, W: Sink>(
     reply: &LsReply<A>,
     output: &mut W,
 ) -> Result<(), ProgramFault<A>>
-    ensures shows { ShowsReply {A = A} reply.now
-        (output_of W.contents W.passed_on W.is_down output.old output.new) result }
-    ensures loans { W.loans output.new ≡ W.loans output.old }
+    ensures { OnSink W.Sink output.old output.new (λ written. ShowsReply {A = A} reply.now written
+        result) }
 {
     match text_of(alloc, reply) {
         Ok(text) => send_text(text.as_slice(), output),
@@ -301,10 +290,10 @@ where
     ensures runs { Runs {A = A}
         (FetchesRemote fetch.now.specs.now fetch.now.limit fetch.now.ends fetch.now.place.now.hello
         (stored_of T.texts T.lockfile file.old file.new)
-        (output_of R.contents R.passed_on R.is_down report.old report.new))
-        (output_of E.contents E.passed_on E.is_down errors.old errors.new) result }
-    ensures report_loans { R.loans report.new ≡ R.loans report.old }
-    ensures errors_loans { E.loans errors.new ≡ E.loans errors.old }
+        (given R.Sink report.old report.new))
+        (given E.Sink errors.old errors.new) result }
+    ensures report_loans { SameSink R.Sink report.old report.new }
+    ensures errors_loans { SameSink E.Sink errors.old errors.new }
 {
     finish(fetch_remote(net, alloc, file, fetch, report), errors)
 }
@@ -323,10 +312,9 @@ where
     T: Storage,
     R: Sink,
     requires { T.lockfile file.old ≡ Absent }
-    ensures fetches { FetchesRemote {A = A} fetch.now.specs.now fetch.now.limit fetch.now.ends
-        fetch.now.place.now.hello (stored_of T.texts T.lockfile file.old file.new)
-        (output_of R.contents R.passed_on R.is_down report.old report.new) result }
-    ensures loans { R.loans report.new ≡ R.loans report.old }
+    ensures { OnSink R.Sink report.old report.new (λ told. FetchesRemote {A = A}
+        fetch.now.specs.now fetch.now.limit fetch.now.ends fetch.now.place.now.hello
+        (stored_of T.texts T.lockfile file.old file.new) told result) }
 {
     match open_stored(alloc, file) {
         Ok(mut opened) => fetch_opened(net, &mut opened, file, fetch, report),
@@ -348,13 +336,12 @@ where
     T: Storage,
     R: Sink,
     requires { T.lockfile file.old ≡ Empty }
-    ensures fetches { Holds (T.texts file.old) opened.old.text.items
+    ensures fetches { OnSink R.Sink report.old report.new (λ told.
+        Holds (T.texts file.old) opened.old.text.items
         → NamesClient opened.old.text.items opened.old.repo
         → IsFetchedRemote {A = A} fetch.now.specs.now fetch.now.limit fetch.now.ends
-        fetch.now.place.now.hello (stored_of T.texts T.lockfile file.old file.new)
-        (output_of R.contents R.passed_on R.is_down report.old report.new) result }
+        fetch.now.place.now.hello (stored_of T.texts T.lockfile file.old file.new) told result) }
     ensures lockfile { T.lockfile file.new ≡ Absent }
-    ensures loans { R.loans report.new ≡ R.loans report.old }
 {
     match fetch_at(net, &mut opened.repo, fetch) {
         Ok(fetched) => {
@@ -425,10 +412,10 @@ where
     N: Net,
     ensures runs { Runs {A = A}
         (Meets pair.now.client.now pair.now.specs.now
-        (output_of W.contents W.passed_on W.is_down output.old output.new))
-        (output_of E.contents E.passed_on E.is_down errors.old errors.new) result }
-    ensures output_loans { W.loans output.new ≡ W.loans output.old }
-    ensures errors_loans { E.loans errors.new ≡ E.loans errors.old }
+        (given W.Sink output.old output.new))
+        (given E.Sink errors.old errors.new) result }
+    ensures output_loans { SameSink W.Sink output.old output.new }
+    ensures errors_loans { SameSink E.Sink errors.old errors.new }
 {
     finish(meet(net, pair, output), errors)
 }
@@ -440,9 +427,8 @@ fn meet<A: Allocator + Copy, N, W: Sink>(
 ) -> Result<(), ProgramFault<A>>
 where
     N: Net,
-    ensures meets { Meets {A = A} pair.now.client.now pair.now.specs.now
-        (output_of W.contents W.passed_on W.is_down output.old output.new) result }
-    ensures loans { W.loans output.new ≡ W.loans output.old }
+    ensures { OnSink W.Sink output.old output.new (λ written. Meets {A = A} pair.now.client.now
+        pair.now.specs.now written result) }
 {
     match open_client(pair.server.graph().allocator(), pair.client) {
         Ok(mut repo) => meet_client(net, pair.server, &mut repo, pair.specs, output),
@@ -460,10 +446,8 @@ fn meet_client<A: Allocator + Copy, N, W: Sink>(
 ) -> Result<(), ProgramFault<A>>
 where
     N: Net,
-    ensures meets { (file : Bytes) → NamesClient file repo.old
-        → Meets {A = A} file specs.now (output_of W.contents W.passed_on W.is_down output.old
-        output.new) result }
-    ensures loans { W.loans output.new ≡ W.loans output.old }
+    ensures { OnSink W.Sink output.old output.new (λ written. (file : Bytes)
+        → NamesClient file repo.old → Meets {A = A} file specs.now written result) }
 {
     match fetch_in_pair(net, server, repo, specs) {
         Ok(fetched) => send_report(server.graph().allocator(), &fetched, output),

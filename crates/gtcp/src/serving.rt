@@ -2,7 +2,7 @@
 
 ghost use Rattle.std.specs.Prelude.{◌≡◌};
 ghost use Rattle.gpkt.specs.Change.{change_of};
-ghost use Rattle.gpkt.specs.Sending.{output_of};
+ghost use Rattle.gpkt.specs.Streams.{given, SameSink};
 ghost use Rattle.gobject.specs.Packs.{MayPack};
 ghost use Rattle.gcmd.specs.Serving.{outcome_of_connection};
 ghost use Rattle.gtcp.specs.Sockets.{HoldsServing, IsServed, ServesEach, outcome_of};
@@ -55,8 +55,8 @@ where
     ensures serves { ServesEach server.now (MayPack (K.packs packer.now))
         (K.pack_fails packer.now) path.now
         ends
-        (output_of E.contents E.passed_on E.is_down errors.old errors.new) connections result }
-    ensures loans { E.loans errors.new ≡ E.loans errors.old }
+        (given E.Sink errors.old errors.new) connections result }
+    ensures loans { SameSink E.Sink errors.old errors.new }
 {
     let export = Export { server, path, ends };
     let listening = Listening {
@@ -92,9 +92,9 @@ where
     ensures serves { ServesEach export.now.server.now (MayPack (K.packs packer.now))
         (K.pack_fails packer.now)
         export.now.path.now export.now.ends
-        (output_of E.contents E.passed_on E.is_down errors.old errors.new)
+        (given E.Sink errors.old errors.new)
         listening.now.connections result }
-    ensures loans { E.loans errors.new ≡ E.loans errors.old }
+    ensures loans { SameSink E.Sink errors.old errors.new }
 {
     let mut can_print = true;
     for _number in 0..listening.connections {
@@ -116,8 +116,8 @@ fn tell<A: Allocator + Copy, E: Sink>(
     errors: &mut E,
 ) -> bool
     ensures tells { Tells outcome can_print result
-        (output_of E.contents E.passed_on E.is_down errors.old errors.new) }
-    ensures loans { E.loans errors.new ≡ E.loans errors.old }
+        (given E.Sink errors.old errors.new) }
+    ensures loans { SameSink E.Sink errors.old errors.new }
 {
     match outcome {
         Err(fault) if can_print => print_fault(&fault, errors).is_ok(),

@@ -1,11 +1,14 @@
 use Rattle.std.proofs.Common.{inl, inr, refl}
 use Rattle.gcmd.proofs.fetch.fetch_into.Goals as goal
 
-pub returns-in-Ok-clause-fetches : goal.returns-in-Ok-clause-fetches
-returns-in-Ok-clause-fetches g c = inl (c.fetch_for.ensures.fetches c.args.fetch.now.file.now c.in-Ok.ensures)
+pub returns-in-Ok : goal.returns-in-Ok
+returns-in-Ok g c =
+    let fetches = c.fetch_for.ensures in
+    ((inl (fetches.0.0 c.args.fetch.now.file.now c.in-Ok.ensures), fetches.0.1), fetches.1, fetches.2)
 
-pub returns-in-Err-clause-fetches : goal.returns-in-Err-clause-fetches
-returns-in-Err-clause-fetches g c =
+pub returns-in-Err : goal.returns-in-Err
+returns-in-Err g c = (
+  (
     inr (record {
       fault = c.in-Err.fault;
       refused = c.in-Err.ensures;
@@ -14,4 +17,9 @@ returns-in-Err-clause-fetches g c =
       unwritten = record { written = refl; passed_on = refl; down = refl };
       unreported = record { written = refl; passed_on = refl; down = refl };
       none = refl;
-    })
+    }),
+    refl,
+  ),
+  refl,
+  refl,
+)

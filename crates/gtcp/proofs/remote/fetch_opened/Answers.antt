@@ -10,35 +10,40 @@ pub conclude_stored-requires-clause-updates : goal.conclude_stored-requires-clau
 conclude_stored-requires-clause-updates g c = AllZip-long _ _ _ c.in-Ok.ensures.settled.each
 
 pub returns-in-Ok-clause-fetches : goal.returns-in-Ok-clause-fetches
-returns-in-Ok-clause-fetches g c = λ held names.
+returns-in-Ok-clause-fetches g c =
     let P : List ℕ → Type 0 = λ old.
     Holds (g.T.Storage.texts c.args.file.now) old
     → ConcludesStored old c.fetch_at.new.repo c.in-Ok.fetched
     (stored_of g.T.Storage.texts g.T.Storage.lockfile c.args.file.now c.conclude_stored.new.file)
     (output_of g.R.Sink.contents g.R.Sink.passed_on g.R.Sink.is_down c.args.report.now c.conclude_stored.new.report)
-    c.conclude_stored.result in
-    record {
-      old = c.args.opened.now.text.items;
-      held = held;
-      repo = c.args.opened.now.repo;
-      names = names;
-      new = c.fetch_at.new.repo;
-      result = Ok c.in-Ok.fetched;
-      fetches = c.in-Ok.ensures.fetches;
-      ends_so = (
-        record { grows = c.in-Ok.ensures.grows; settles = c.in-Ok.ensures.settled },
-        subst P c.as_slice.ensures.value c.conclude_stored.ensures.concludes held,
-      );
-    }
+    c.conclude_stored.result in (
+      λ held names. record {
+        old = c.args.opened.now.text.items;
+        held = held;
+        repo = c.args.opened.now.repo;
+        names = names;
+        new = c.fetch_at.new.repo;
+        result = Ok c.in-Ok.fetched;
+        fetches = c.in-Ok.ensures.fetches;
+        ends_so = (
+          record { grows = c.in-Ok.ensures.grows; settles = c.in-Ok.ensures.settled },
+          subst P c.as_slice.ensures.value c.conclude_stored.ensures.concludes held,
+        );
+      },
+      c.conclude_stored.ensures.report_loans,
+    )
 
 pub returns-in-Err-clause-fetches : goal.returns-in-Err-clause-fetches
-returns-in-Err-clause-fetches g c = λ held names. record {
-  old = c.args.opened.now.text.items;
-  held = held;
-  repo = c.args.opened.now.repo;
-  names = names;
-  new = c.fetch_at.new.repo;
-  result = Err c.in-Err.fault;
-  fetches = c.in-Err.ensures.fetches;
-  ends_so = (KeepsStates-same _ _ c.unlock.ensures.texts, record { written = refl; passed_on = refl; down = refl }, refl);
-}
+returns-in-Err-clause-fetches g c = (
+  λ held names. record {
+    old = c.args.opened.now.text.items;
+    held = held;
+    repo = c.args.opened.now.repo;
+    names = names;
+    new = c.fetch_at.new.repo;
+    result = Err c.in-Err.fault;
+    fetches = c.in-Err.ensures.fetches;
+    ends_so = (KeepsStates-same _ _ c.unlock.ensures.texts, record { written = refl; passed_on = refl; down = refl }, refl);
+  },
+  refl,
+)

@@ -4,8 +4,8 @@ use Rattle.glockfile.specs.Storing.{Holds, Texts}
 use Rattle.gtcp.specs.Remote.{IsFetchedRemote}
 use Rattle.gtcp.proofs.remote.fetch_remote.Goals as goal
 
-pub returns-in-Ok-clause-fetches : goal.returns-in-Ok-clause-fetches
-returns-in-Ok-clause-fetches g c =
+pub returns-in-Ok : goal.returns-in-Ok
+returns-in-Ok g c =
     let fetch = c.args.fetch.now in
     let P : Option Texts → Type 0 = λ texts.
     Holds texts c.in-Ok.opened.text.items
@@ -16,7 +16,8 @@ returns-in-Ok-clause-fetches g c =
       lockfile = g.T.Storage.lockfile c.fetch_opened.new.file;
     })
     (output_of g.R.Sink.contents g.R.Sink.passed_on g.R.Sink.is_down c.args.report.now c.fetch_opened.new.report)
-    c.fetch_opened.result in (
-      c.fetch_opened.ensures.lockfile,
-      inl (subst P c.in-Ok.ensures.texts (λ held. c.fetch_opened.ensures.fetches held c.in-Ok.ensures.opens.1) c.in-Ok.ensures.opens.0),
+    c.fetch_opened.result in
+    let fetches = c.fetch_opened.ensures.fetches in (
+      (c.fetch_opened.ensures.lockfile, inl (subst P c.in-Ok.ensures.texts (λ held. fetches.0 held c.in-Ok.ensures.opens.1) c.in-Ok.ensures.opens.0)),
+      fetches.1,
     )
