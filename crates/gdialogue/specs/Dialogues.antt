@@ -73,8 +73,8 @@ module _ {S : Type 0} (judge : S → Judge) (brings : S → List Packet → Pack
         → HasReplied first (heard ++ lines) stop said reply false last
 
   module _ {M R : Type 0} (hears : S → M → List Packet → Type 0) (may : R → List Packet → Bool → Type 0) where
-    -- This end is receiving a message, and has answered all earlier messages. The packets that were queued since the last
-    -- received packet, if any, are the latest answer.
+    -- This end is receiving a message, and has answered all earlier messages. The packets that were queued since the
+    -- last received packet, if any, are the latest answer.
     pub record HoldsHearing (side : S) (message : M) (frame : ℕ) (talk : Talk) : Type 0 where
       pub first : S
       pub heard : List Packet
@@ -88,8 +88,8 @@ module _ {S : Type 0} (judge : S → Judge) (brings : S → List Packet → Pack
       pub latest : IsTurnStart talk ⊎ ((part : List Packet) × (talk.said ≡ talk.earlier ++ part)
           × HasReplied first talk.heard talk.stopped talk.earlier part true side)
 
-    -- This end is sending an answer, and has queued the packets `part` of it. Every list of packets that may complete the
-    -- reply completes the answer.
+    -- This end is sending an answer, and has queued the packets `part` of it. Every list of packets that may complete
+    -- the reply completes the answer.
     pub record HoldsSaying (side : S) (reply : R) (talk : Talk) : Type 0 where
       pub first : S
       pub part : List Packet
@@ -97,8 +97,8 @@ module _ {S : Type 0} (judge : S → Judge) (brings : S → List Packet → Pack
       pub due : (rest : List Packet) (goes : Bool) → may reply rest goes
           → HasReplied first talk.heard talk.stopped talk.earlier (part ++ rest) goes side
 
-    -- This end is sending its last reply, and has queued the packets `part` of it. Every list of packets that may complete
-    -- the reply ends the dialogue.
+    -- This end is sending its last reply, and has queued the packets `part` of it. Every list of packets that may
+    -- complete the reply ends the dialogue.
     pub record HoldsEnding (side : S) (reply : R) (talk : Talk) : Type 0 where
       pub first : S
       pub part : List Packet

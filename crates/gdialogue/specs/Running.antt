@@ -35,8 +35,8 @@ pub record Receives (heard : List Packet) (stopped : Option Stop) (read : Change
 module _ {S : Type 0} (judge : S → Judge) (brings : S → List Packet → Packet → Bool)
     (opens : S → List Packet → Bool → Type 0) (answers : S → List Packet → List Packet → Bool → S → Type 0)
     (refuses : S → MessageFault → List Packet → S → Type 0) where
-  -- The dialogue has ended with the latest answer. All answers are written and flushed. If the answers contain no packet,
-  -- the sink is unchanged.
+  -- The dialogue has ended with the latest answer. All answers are written and flushed. If the answers contain no
+  -- packet, the sink is unchanged.
   pub record HasRun (sent : Bool) (first now : S) (read written passed_on : Change) (source_down sink_down : Bool)
       (Untouched : Type 0) : Type 0 where
     pub heard : List Packet

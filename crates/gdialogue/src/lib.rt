@@ -14,16 +14,16 @@
 //! - The message that is being received is related to its packets so far and to the side's current
 //!   state, as `hears` of [`Side`] states (`HoldsHearing` in `specs/Dialogues.antt`).
 //! - A dialogue ends with a last answer, with a reply that ends the dialogue early, or with a
-//!   refused message (`HoldsOver`, `HasReplied`). A message is refused at the first packet that its grammar
-//!   rejects, with the position of the packet and the reason. A message is also refused if memory
-//!   runs out for a packet, or if no more packets arrive and the message is incomplete.
+//!   refused message (`HoldsOver`, `HasReplied`). A message is refused at the first packet that its
+//!   grammar rejects, with the position of the packet and the reason. A message is also refused if
+//!   memory runs out for a packet, or if no more packets arrive and the message is incomplete.
 //! - The packets that were queued since the last received packet are a part of the latest answer
 //!   (`HasReplied`). All packets before them are those of earlier answers.
 //! - A caller that runs a whole dialogue of a [`Begun`] side knows the first state of the side.
-//! - [`run_dialogue`] runs a whole dialogue over a blocking source and a blocking sink. Its contract
-//!   states which packets were received and sent since the first state of the side (`HasRun` in
-//!   `specs/Running.antt`). If the sink fails, all earlier answers are flushed, and a prefix of the
-//!   latest answer is written (`HasBroken`).
+//! - [`run_dialogue`] runs a whole dialogue over a blocking source and a blocking sink. Its
+//!   contract states which packets were received and sent since the first state of the side
+//!   (`HasRun` in `specs/Running.antt`). If the sink fails, all earlier answers are flushed, and a
+//!   prefix of the latest answer is written (`HasBroken`).
 //! - The packets of a complete reply are a list that the contract of the reply permits (`may` in
 //!   [`Reply`]). The reply can choose its packets while it is being sent (`SaysSome` in
 //!   `specs/Sides.antt`).

@@ -52,8 +52,8 @@ pub enum Answer<R> {
     Last(R),
 }
 
-/// One end of a dialogue: the messages that it accepts, and its answers. A value of `M` is a message
-/// of which some packets may not have arrived yet.
+/// One end of a dialogue: the messages that it accepts, and its answers. A value of `M` is a
+/// message of which some packets may not have arrived yet.
 pub trait Side<M, R: Reply> {
     ghost use Rattle.ggrammar.specs.declared.fault.MessageFault.{MessageFault};
 

@@ -8,8 +8,8 @@ use gobject::IndexFault;
 use std::alloc::Allocator;
 use std::marker::Model;
 
-/// The bytes of a pack so far, at most `gname::MAX_PACK`. Contracts treat a `MemoryFeed` as the list
-/// of these bytes.
+/// The bytes of a pack so far, at most `gname::MAX_PACK`. Contracts treat a `MemoryFeed` as the
+/// list of these bytes.
 #[derive(Drop)]
 pub struct MemoryFeed<A: Allocator + Copy> {
     alloc: A,
@@ -59,8 +59,8 @@ impl<A: Allocator + Copy> MemoryFeed<A> {
 
     /// Appends the next bytes of the pack.
     ///
-    /// Fails with `Other` if the pack would have more than `gname::MAX_PACK` bytes, or with `Memory`
-    /// if out of memory. After a fault the feed is unchanged.
+    /// Fails with `Other` if the pack would have more than `gname::MAX_PACK` bytes, or with
+    /// `Memory` if out of memory. After a fault the feed is unchanged.
     pub(crate) fn push(&mut self, piece: &[u8]) -> Result<(), IndexFault>
         ensures ok { OnOk result (self.new ≡ self.old ++ piece.now) }
         ensures err { OnErr result (self.new ≡ self.old) }

@@ -30,7 +30,8 @@ pub struct MemoryIndexer<A: Allocator + Copy = Global> {
 }
 
 impl<A: Allocator + Copy> MemoryIndexer<A> {
-    /// Returns an indexer that keeps the objects of this store, and adds the objects of packs to it.
+    /// Returns an indexer that keeps the objects of this store, and adds the objects of packs to
+    /// it.
     pub fn new(store: ClosedStore<A>) -> MemoryIndexer<A>
         ensures { result.store ≡ store }
     {
@@ -73,8 +74,8 @@ impl<A: Allocator + Copy> KeepingIndexer<A> for MemoryIndexer<A> {
 
     /// Appends a piece to the pack.
     ///
-    /// Fails with `Other` if the pack would have more than `gname::MAX_PACK` bytes, or with `Memory`
-    /// if out of memory. After a fault the feed is unchanged.
+    /// Fails with `Other` if the pack would have more than `gname::MAX_PACK` bytes, or with
+    /// `Memory` if out of memory. After a fault the feed is unchanged.
     fn feed(&self, feed: &mut MemoryFeed<A>, piece: &[u8]) -> Result<(), IndexFault>
         ensures ok { OnOk result (feed.new ≡ feed.old ++ piece.now) }
         ensures err { OnErr result (feed.new ≡ feed.old) }
@@ -85,10 +86,10 @@ impl<A: Allocator + Copy> KeepingIndexer<A> for MemoryIndexer<A> {
     /// Adds all objects of the pack to the store, or none. Returns the entries of its commits and
     /// tags. Trees, blobs, and tags of trees or blobs have no entry.
     ///
-    /// Fails with `Other` if the pack is malformed or exceeds a limit. Also fails with `Other` if an
-    /// object is malformed, or has a link that leads to no object of its type. Fails with `Other` if
-    /// an id belongs to two objects of different types. Fails with `Memory` if out of memory. After
-    /// a fault the store is unchanged.
+    /// Fails with `Other` if the pack is malformed or exceeds a limit. Also fails with `Other` if
+    /// an object is malformed, or has a link that leads to no object of its type. Fails with
+    /// `Other` if an id belongs to two objects of different types. Fails with `Memory` if out of
+    /// memory. After a fault the store is unchanged.
     fn finish(&mut self, feed: MemoryFeed<A>) -> Result<Vec<Entry<A>, A>, IndexFault>
         ensures indexes { IfOk result (λ entries. IsIndexed feed entries.items) }
         ensures kept { IfOk result (λ entries. All (λ entry. IsKept self.new.store entry.id)

@@ -14,8 +14,8 @@
 //! - The store keeps the id of each returned entry, and all ids that it kept before. After a fault
 //!   the store is unchanged.
 //! - An accepted pack is a pack of version 2 whose trailer is the SHA-1 of all preceding bytes.
-//! - Each returned entry describes a commit or tag. The id of the entry is the SHA-1 of the type and
-//!   bytes of this object. The entry has the parents of the commit, or the target of the tag.
+//! - Each returned entry describes a commit or tag. The id of the entry is the SHA-1 of the type
+//!   and bytes of this object. The entry has the parents of the commit, or the target of the tag.
 //! - A [`MemoryFeed`] holds exactly the received bytes, in order, and at most `gname::MAX_PACK`.
 //! - No call panics, overflows or reads out of bounds, and every call returns.
 //!

@@ -510,8 +510,8 @@ fn make_client(
     }
 }
 
-// Fetches into the repository of a client. Each object that the client's graph gains is an object of
-// the returned pack, or one of its prerequisites.
+// Fetches into the repository of a client. Each object that the client's graph gains is an object
+// of the returned pack, or one of its prerequisites.
 fn receive_into<'r, R, E>(
     rt: &'r R,
     client: Client,

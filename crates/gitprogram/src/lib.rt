@@ -29,9 +29,9 @@
 //!   apply to each connection. `serve` runs the dialogues in an event loop of `gevents`, and
 //!   `upload-pack` runs one dialogue by `gtalk::drive`. If no fault ends the sending of a pack, the
 //!   pack has a header, as many entries as the header states, and a trailer.
-//! - `clone` and `fetch` receive objects by a private function. Each id that the graph of the client
-//!   gains is that of an object of the received pack, or of a prerequisite of the pack. This holds
-//!   for any bytes from the server.
+//! - `clone` and `fetch` receive objects by a private function. Each id that the graph of the
+//!   client gains is that of an object of the received pack, or of a prerequisite of the pack. This
+//!   holds for any bytes from the server.
 //!
 //! # Only tested
 //!

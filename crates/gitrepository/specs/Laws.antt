@@ -41,8 +41,8 @@ PacksKeepClosed =
     (prerequisites : List Link) (objects : List IndexedEntry) (s : Store) → IsNamed s → IsClosed s
     → AreLinked prerequisites objects → All (LeadsIn s) prerequisites → HasClosed (types_of objects) s ⊎ HasTwoTypes objects
 
--- There is a store of the objects of the pack. In this store and the store `s` together each kept id is complete, or the
--- two stores collide.
+-- There is a store of the objects of the pack. In this store and the store `s` together each kept id is complete, or
+-- the two stores collide.
 pub record CompletesKept (keeps : Id → Type 0) (objects : List IndexedEntry) (s : Store) : Type 0 where
   pub added : Store
   pub types : AreTypesOf (types_of objects) added

@@ -15,18 +15,18 @@ pub fn packs_keep_closed()
 {}
 
 /// Proves that each id of a client's graph is complete after a fetch: everything that it reaches
-/// exists in the store with the objects of the received pack. The store must be closed. It must have
-/// the prerequisites of the pack, and each object of the graph before the fetch. The graph may gain
-/// only ids that the indexer keeps. The exceptions are those of [`packs_keep_closed`].
+/// exists in the store with the objects of the received pack. The store must be closed. It must
+/// have the prerequisites of the pack, and each object of the graph before the fetch. The graph may
+/// gain only ids that the indexer keeps. The exceptions are those of [`packs_keep_closed`].
 pub fn kept_is_complete<A: Allocator + Copy>()
     ensures { KeptIsComplete A }
 {}
 
-/// Proves the same as [`kept_is_complete`] for a closed store that need not have the trees among the
-/// prerequisites, such as those of a killed fetch. The prerequisites must have been looked up, and
-/// each tree that was looked up must have been read. The closed store must have all other objects
-/// that were looked up. Each id of the graph is complete in the store with the objects of the pack
-/// and these trees.
+/// Proves the same as [`kept_is_complete`] for a closed store that need not have the trees among
+/// the prerequisites, such as those of a killed fetch. The prerequisites must have been looked up,
+/// and each tree that was looked up must have been read. The closed store must have all other
+/// objects that were looked up. Each id of the graph is complete in the store with the objects of
+/// the pack and these trees.
 pub fn read_is_complete<A: Allocator + Copy>()
     ensures { ReadIsComplete A }
 {}

@@ -134,8 +134,8 @@ pub record IsBelowLeftOut {A : Type 0} (has : Id → GitObject → Type 0) (entr
   pub leads : LeadsDown has parent a
 
 -- The ids are distinct. The listed objects are sent, and their parents are sent or left out. Each sent object was read,
--- unless it is not listed and a sent object names it as a blob. Its followed links lead to objects that are sent or left
--- out. Only what a listed object leads to is sent. Only what a left-out parent leads to is left out.
+-- unless it is not listed and a sent object names it as a blob. Its followed links lead to objects that are sent or
+-- left out. Only what a listed object leads to is sent. Only what a left-out parent leads to is left out.
 pub record IsGathered {A : Type 0} (has : Id → GitObject → Type 0) (entries : List (Entry A)) (fates : Fates) : Type 0 where
   pub distinct : AreDistinct fates
   pub listed : (a : Id) → IsListed entries a → IsSentAt fates a

@@ -45,9 +45,9 @@ sent_from s fates a = if is_sent_at (fate_at fates a) then s a else None
 abbrev pub AreKnown : {A : Type 0} → List (Entry A) → Fates → List Id → Type 0
 AreKnown entries fates known = (a : Id) → IsParent entries a → IsLeftOut fates a → Contains known a
 
--- The store of a server is closed, and the entries describe its objects. Then the objects that are sent for these entries
--- are those of an honest server. Each link of a sent object leads to a sent object, or to an object that a left-out
--- parent reaches. The known ids include the left-out parents.
+-- The store of a server is closed, and the entries describe its objects. Then the objects that are sent for these
+-- entries are those of an honest server. Each link of a sent object leads to a sent object, or to an object that a
+-- left-out parent reaches. The known ids include the left-out parents.
 abbrev pub GatheredIsSent : Type 0 → Type 0
 GatheredIsSent A =
     (server : Store) (entries : List (Entry A)) (fates : Fates) (known : List Id) → IsClosed server

@@ -31,8 +31,8 @@ IsLookedUp fates link = (decided : Decided) × (decided_at fates link.id ≡ Som
 abbrev pub LeadsToKnown : Fates → List IndexedEntry → Link → Type 0
 LeadsToKnown fates objects link = IsInPack objects link ⊎ IsLookedUp fates link
 
--- The relation `has` says which object was read for an id. A tree was read for the id `a`. Each of its links leads to an
--- object of the pack, or to an object of the store that was looked up.
+-- The relation `has` says which object was read for an id. A tree was read for the id `a`. Each of its links leads to
+-- an object of the pack, or to an object of the store that was looked up.
 pub record IsTreeRead (has : Id → GitObject → Type 0) (objects : List IndexedEntry) (fates : Fates) (a : Id) : Type 0 where
   pub body : List ℕ
   pub read : has a (object_of Tree body)

@@ -154,8 +154,8 @@ impl<A: Allocator + Copy> Fates<A> {
         }
     }
 
-    /// Sets the fate of an object, which must be undecided. Fails only if out of memory, and then no
-    /// fate changes.
+    /// Sets the fate of an object, which must be undecided. Fails only if out of memory, and then
+    /// no fate changes.
     pub(crate) fn settle(&mut self, id: &Oid, decided: Decided) -> Result<(), AllocError>
         ensures { OnOk result (Puts self.old id.now decided self.new) }
     {

@@ -1,5 +1,5 @@
-//! Proved laws of the objects that are sent. Each function does nothing at run time. The contract of
-//! each function states a law, which the proof of a caller can use.
+//! Proved laws of the objects that are sent. Each function does nothing at run time. The contract
+//! of each function states a law, which the proof of a caller can use.
 
 ghost use Rattle.gitwalk.specs.Laws.{GatheredIsHeld, GatheredIsSent};
 

@@ -1,8 +1,8 @@
-//! Walks over Git's commits, trees and blobs. The walks find the objects that a pack sends, and check
-//! that the trees of a store are complete (git-rev-list(1), "--objects"; git-fsck(1)).
+//! Walks over Git's commits, trees and blobs. The walks find the objects that a pack sends, and
+//! check that the trees of a store are complete (git-rev-list(1), "--objects"; git-fsck(1)).
 //!
-//! - [`gather`] decides which objects are sent for a list of commits and tags. The [`Fates`] that it
-//!   returns are the ids, locations and fates of these objects, and of the objects that are left
+//! - [`gather`] decides which objects are sent for a list of commits and tags. The [`Fates`] that
+//!   it returns are the ids, locations and fates of these objects, and of the objects that are left
 //!   out.
 //! - [`check_trees`] checks the trees among the prerequisites of a received pack: the store or the
 //!   pack must have everything that they reach.
@@ -23,8 +23,8 @@
 //!   objects that are read are those of the store. The exception is another object with the same id
 //!   as an object of the store ([`laws::gathered_is_held`]).
 //! - If [`check_trees`] succeeds, each prerequisite is an object of the pack, or was located in the
-//!   store. Each tree that was located was read. Each of its links leads to an object of the pack, or
-//!   to an object that was located. All links to a located object give it the same type.
+//!   store. Each tree that was located was read. Each of its links leads to an object of the pack,
+//!   or to an object that was located. All links to a located object give it the same type.
 //! - No call panics, overflows or reads out of bounds, and every call returns.
 //!
 //! # Differences from Git
@@ -39,7 +39,8 @@
 //!   contracts cannot describe the contents of system files. The walk only locates the blobs that
 //!   trees name.
 //! - An object that a tree names as a tree or blob may have another type.
-//! - Trees and blobs may be sent that a left-out parent reaches, if a listed commit reaches them too.
+//! - Trees and blobs may be sent that a left-out parent reaches, if a listed commit reaches them
+//!   too.
 //! - The other object in [`laws::gathered_is_held`] need not be an object that was read.
 //! - [`check_trees`] checks nothing that a commit or tag among the prerequisites reaches. The call
 //!   [`find_entry`] may miss an object of the pack.
@@ -50,9 +51,9 @@
 //!
 //! # Dependencies
 //!
-//! `gitobjects` reads objects, `gitobject` parses links, and `gitpack` defines the entries of a pack
-//! index. `gcomplete` defines closed stores, `gobject` and `gdag` define graphs, and `gname` defines
-//! ids. `indexmap` defines maps by id.
+//! `gitobjects` reads objects, `gitobject` parses links, and `gitpack` defines the entries of a
+//! pack index. `gcomplete` defines closed stores, `gobject` and `gdag` define graphs, and `gname`
+//! defines ids. `indexmap` defines maps by id.
 #![tactic(auto)]
 
 mod fates;

@@ -20,8 +20,8 @@ use std::alloc::Allocator;
 /// Fails with `Store` at the first missing object, and at a tree that is broken or has another id.
 /// Fails with `Malformed` at a malformed tree. Fails with `Type` if a link to a tree leads to an
 /// object of another type. Fails with `Type` also if a link gives an object of the received pack
-/// another type, or if two links give an object two types. The types of other blobs are not checked.
-/// Fails with `Memory` if out of memory.
+/// another type, or if two links give an object two types. The types of other blobs are not
+/// checked. Fails with `Memory` if out of memory.
 pub fn check_trees<S: WalkedStore<A>, A: Allocator + Copy>(
     store: &mut S,
     received: &[IndexedEntry],

@@ -37,8 +37,8 @@ pub trait WalkedStore<A: Allocator + Copy> {
     /// Returns the allocator of the store.
     fn allocator(&self) -> A;
 
-    /// Returns the location of the object with this id. Fails if the object is missing or broken, if
-    /// the store cannot be read, or if out of memory.
+    /// Returns the location of the object with this id. Fails if the object is missing or broken,
+    /// if the store cannot be read, or if out of memory.
     fn locate(&mut self, id: &Oid) -> Result<Found, StoreFault<A>>
         ensures { IfOk result (λ found. located id.now found) };
 
@@ -100,14 +100,15 @@ fn names_object(id: &Oid, kind: ObjectType, body: &[u8])
 /// sent. The trees and blobs that the listed commits reach are also sent, unless a parent outside
 /// the list reaches them.
 ///
-/// Reads the listed objects, the parents outside the list, and all trees that they reach, and checks
-/// their ids. Each of these objects is hashed once. The blobs that trees name are only located.
+/// Reads the listed objects, the parents outside the list, and all trees that they reach, and
+/// checks their ids. Each of these objects is hashed once. The blobs that trees name are only
+/// located.
 ///
 /// Fails with `Store` at the first object that is missing, or that is read and is broken or has
 /// another id. Fails with `Malformed` at a commit or tree that is malformed. Fails with `Type` if a
 /// link to a tree leads to an object of another type. Fails with `Type` also if two links give an
-/// object two types, unless the object is listed or a parent of a listed object. Fails with `Memory`
-/// if out of memory.
+/// object two types, unless the object is listed or a parent of a listed object. Fails with
+/// `Memory` if out of memory.
 pub fn gather<S: WalkedStore<A>, A: Allocator + Copy>(
     store: &mut S,
     entries: &[Entry<A>],

@@ -4,8 +4,8 @@
 //! # Proved
 //!
 //! - Suppose a client keeps the ids and types of its objects in a `gitmemory::MemoryIndexer`. Then
-//!   each ref of the client is complete after any events ([`run_complete`]). The store has the id of
-//!   each commit, tree, blob and tag that the ref reaches. Messages may be lost, repeated, late,
+//!   each ref of the client is complete after any events ([`run_complete`]). The store has the id
+//!   of each commit, tree, blob and tag that the ref reaches. Messages may be lost, repeated, late,
 //!   truncated or forged.
 //! - No call panics, overflows or reads out of bounds, and every call returns.
 //!

@@ -62,7 +62,8 @@ fetch_events specs kept = event.Begin specs ∷ events_from 0 kept (event.Settle
 abbrev pub fetch_outcomes : List Outcome → List RefUpdate → List Outcome
 fetch_outcomes taken updates = outcomes.Done ∷ outcomes_from 0 taken (settled_outcome updates ∷ [])
 
--- the events of a fetch that may have failed, with these requests and replies, and their outcomes; only `Settle` may fail
+-- the events of a fetch that may have failed, with these requests and replies, and their outcomes; only `Settle` may
+-- fail
 pub data AreFetchEvents {A : Type 0} (specs : Vec Refspec A) (kept : List Kept)
     : List (Event A) → List Outcome → Type 0 where
   none : AreFetchEvents specs kept [] []
@@ -120,8 +121,8 @@ module _ {A : Type 0} (tools : PackTools A) where
     pub read : (last.kept ≡ []) ⊎ (answered ≡ canonical_all (advert_packets server.graph.format)
         ++ flat_map (λ one. reply_bytes one.reply) last.kept ++ more)
 
-  -- A client's fetch and a server's conversation. Each end can read exactly the bytes that the other wrote. The fetch has
-  -- the default options. The types of server, repository and refspecs guarantee the first premises.
+  -- A client's fetch and a server's conversation. Each end can read exactly the bytes that the other wrote. The fetch
+  -- has the default options. The types of server, repository and refspecs guarantee the first premises.
   pub record AreJoined (server : Server A) (repo : RepoState A) (specs : Vec Refspec A) (asked answered : Bytes)
       (input : Input) (new : RepoState A) (result : Result (Fetched A) (FetchFault A)) : Type 0 where
     pub ends : AreEndsConnected (new_world server repo)

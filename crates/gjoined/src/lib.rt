@@ -27,8 +27,9 @@
 //!   flush packet. The laws do not cover other fetches, listings, or the `git://` transport.
 //! - For a failed fetch that left the repository unchanged, the second law also permits the run
 //!   without events. The law does not relate the fault of a fetch to the outcomes of the run.
-//! - The premise is about whole conversations, whose bytes are known at both ends. A socket does not
-//!   record its bytes. The laws do not say when bytes arrive, or which bytes a failed fetch read.
+//! - The premise is about whole conversations, whose bytes are known at both ends. A socket does
+//!   not record its bytes. The laws do not say when bytes arrive, or which bytes a failed fetch
+//!   read.
 //!
 //! No program of this repository uses this crate, and it has no tests.
 //!

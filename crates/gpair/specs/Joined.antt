@@ -9,8 +9,8 @@ use Rattle.gpkt.specs.Sending.{Input}
 abbrev pub all_read : Bytes → Change
 all_read received = record { old = Some received; new = Some [] }
 
--- Exactly the bytes `received` are read, if the bytes of the source are known. The predicate `Runs` holds for an input of exactly these bytes; `lost` states
--- whether this input then fails. Otherwise, it ends after these bytes.
+-- Exactly the bytes `received` are read, if the bytes of the source are known. The predicate `Runs` holds for an input
+-- of exactly these bytes; `lost` states whether this input then fails. Otherwise, it ends after these bytes.
 pub record HearsAll (read : Change) (Runs : Change → Bool → Type 0) : Type 0 where
   pub received : Bytes
   pub consumed : Consumes read.old read.new received

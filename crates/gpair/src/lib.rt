@@ -21,8 +21,8 @@
 //!   are settled. The graph only grows. Only a fetch that failed reports `TooLong`. If memory for
 //!   the server's buffers runs out, the repository is unchanged.
 //! - A [`MessageSink`] loses no byte that its caller wrote: the sink has passed the byte on, or
-//!   still holds it. The inner sink receives nothing before a flush. A flush that succeeds writes all
-//!   held bytes, at most 32,768, to the inner sink.
+//!   still holds it. The inner sink receives nothing before a flush. A flush that succeeds writes
+//!   all held bytes, at most 32,768, to the inner sink.
 //!
 //! # Only tested
 //!

@@ -1,8 +1,8 @@
 //! The calls of a server of Git's fetch service, protocol version 2 (gitprotocol-v2(5)). The call
 //! [`serve`] sends the advertisement and then replies to each request. The call [`serve_one`]
 //! replies to a single request. The call [`serve_git`] serves a connection of the `git://`
-//! transport, which begins with a first line (gitprotocol-pack(5), "Git Transport"). These functions
-//! are in `gserver`. This crate adds laws about whole conversations, and [`write_reply`].
+//! transport, which begins with a first line (gitprotocol-pack(5), "Git Transport"). These
+//! functions are in `gserver`. This crate adds laws about whole conversations, and [`write_reply`].
 //!
 //! # Proved
 //!

@@ -26,8 +26,8 @@ use Rattle.gserver.specs.declared.heard.Heard.{Heard}
 use Rattle.gserver.specs.Listings.{SaysLsAnswer}
 use Rattle.gserver.specs.declared.side.ServerSide.{ServerSide}
 
--- The maximum of the count of requests. After this number of requests, a `ServerSide` accepts only one more request, and
--- `serve` reads nothing more.
+-- The maximum of the count of requests. After this number of requests, a `ServerSide` accepts only one more request,
+-- and `serve` reads nothing more.
 abbrev pub max_requests : ℕ
 max_requests = 4294967295
 

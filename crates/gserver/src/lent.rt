@@ -10,8 +10,8 @@ use gobject::{Entry, PackFault};
 use gparts::PartPacker;
 use std::alloc::{AllocError, Allocator};
 
-/// A borrowed server, and the complete pack of one of its replies. As a packer, it returns this pack
-/// for any entries.
+/// A borrowed server, and the complete pack of one of its replies. As a packer, it returns this
+/// pack for any entries.
 #[derive(Drop)]
 pub(crate) struct Lent<'s, A: Allocator + Copy> {
     server: &'s Server<A>,

@@ -16,9 +16,9 @@ use std::alloc::Allocator;
 
 /// A packer that is asked for at most one pack for each answer, and records its last result.
 ///
-/// Only [`OnePack`] is such a packer. A proof knows the state of a lent value after the loan only if
-/// the value's type names no lifetime. Code that lends a [`OnePack`] is therefore generic in this
-/// trait.
+/// Only [`OnePack`] is such a packer. A proof knows the state of a lent value after the loan only
+/// if the value's type names no lifetime. Code that lends a [`OnePack`] is therefore generic in
+/// this trait.
 pub(crate) trait Recorded<A: Allocator + Copy> {
     // The packer before it is asked for a pack, and its last result.
     ghost once: { Self → Once Self };
@@ -29,7 +29,8 @@ pub(crate) trait Recorded<A: Allocator + Copy> {
     // The faults with which the packer may fail.
     ghost fails: { Self → PackFails A };
 
-    /// Returns the answer to a fetch request. After a pack, prepares the packer for the next answer.
+    /// Returns the answer to a fetch request. After a pack, prepares the packer for the next
+    /// answer.
     fn answer(
         &mut self,
         server: &Server<A>,

@@ -190,8 +190,8 @@ fn converse<S: Source, W: Sink, A: Allocator + Copy, K: Recorded<A>>(
     }
 }
 
-// Runs the dialogue of a side that has received no message. Returns whether the sink failed, and the
-// side.
+// Runs the dialogue of a side that has received no message. Returns whether the sink failed, and
+// the side.
 fn talk<'s, 'p, S: Source, W: Sink, A: Allocator + Copy, K: Recorded<A>>(
     side: LentSide<'s, 'p, A, K>,
     room: Room<A>,

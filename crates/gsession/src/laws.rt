@@ -1,5 +1,5 @@
-//! Laws of sessions. Each function does nothing, and its contract states a proved property. The laws
-//! do not cover `accept_refs`, `accept_objects` and `refuse`.
+//! Laws of sessions. Each function does nothing, and its contract states a proved property. The
+//! laws do not cover `accept_refs`, `accept_objects` and `refuse`.
 
 ghost use Rattle.std.specs.Prelude.{◌≡◌};
 ghost use Rattle.gsession.specs.Bounds.{BeganBegins, BeganStays, BeganStaysOn, BeginsCounted, BeginsOffered, CountedAreFew, CountedStays, DoneAsksLast, LastStays, NoneFollows, OfferedStays, OffersAreNew, RoundsAreFew};

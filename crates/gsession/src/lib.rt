@@ -40,8 +40,8 @@
 //!   whole reply, it reports out of memory only if all acknowledged ids are haves and the indexer
 //!   accepted the pack.
 //! - [`Session::take_reply_into`] does the same with an indexer that has a store. The store keeps
-//!   each object that the graph gains, for any bytes of the reply. The store still keeps all that it
-//!   kept before.
+//!   each object that the graph gains, for any bytes of the reply. The store still keeps all that
+//!   it kept before.
 //! - [`Session::refs_reader`] and [`Session::objects_reader`] return readers of the reply that the
 //!   session waits for. These readers read the reply packet by packet. [`Session::accept_refs`] and
 //!   [`Session::accept_objects`] apply the complete reply to the open request. The session then

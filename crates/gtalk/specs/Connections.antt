@@ -123,8 +123,8 @@ module _ {C A : Type 0} where
   HearsOn old new talk after =
       ((after ≡ talk) × (new.conversation ≡ old.conversation)) ⊎ (IsTurnStart after × (after.said ≡ talk.said))
 
-  -- if no packet of the current turn was queued at first, and the conversation speaks now, no packet of the current turn
-  -- is queued now
+  -- if no packet of the current turn was queued at first, and the conversation speaks now, no packet of the current
+  -- turn is queued now
   abbrev pub TurnsOn : (C → Turn) → Connection C A → Talk → Talk → Type 0
   TurnsOn turn new talk after = IsTurnStart talk → turn new.conversation ≡ Speaks → IsTurnStart after
 
@@ -176,8 +176,8 @@ module _ {C A : Type 0} where
     pub last : SendsSaid turn holds mid new (record { old = between; new = written.new })
     pub passed : HasPassed before.said between written passed_on
 
-  -- The sink failed in a turn that queued at least one packet. The bytes `earlier` of all earlier turns were written and
-  -- flushed, and then `last`, a prefix of the bytes of the last turn, was written.
+  -- The sink failed in a turn that queued at least one packet. The bytes `earlier` of all earlier turns were written
+  -- and flushed, and then `last`, a prefix of the bytes of the last turn, was written.
   pub record FailsInTurn (turn : C → Turn) (holds : C → Talk → Type 0) (old new : Connection C A)
       (read written passed_on : Change) : Type 0 where
     pub more : Bytes

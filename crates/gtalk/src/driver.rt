@@ -67,8 +67,8 @@ pub fn drive<C: Conversation, A: Allocator + Copy, S: Source, W: Sink>(
 ///
 /// A turn that queues no packet is not flushed. If no turn queues a packet, the sink is unchanged.
 ///
-/// Fails with `Io` if the sink fails in a turn that queues packets. All packets of earlier turns are
-/// then flushed. Fails with `Memory` if there is not enough memory for the send queue.
+/// Fails with `Io` if the sink fails in a turn that queues packets. All packets of earlier turns
+/// are then flushed. Fails with `Memory` if there is not enough memory for the send queue.
 pub fn converse<C: Conversation, A: Allocator + Copy, S: Source, W: Sink>(
     connection: &mut Connection<C, A>,
     source: &mut S,
@@ -311,8 +311,9 @@ fn listen<C: Conversation, A: Allocator + Copy, S: Source>(
     }
 }
 
-/// Reads once, at most `limit` bytes and at most up to the end of the current packet. The connection
-/// receives the bytes, the end of the input, or the failure of the source. The limit must not be 0.
+/// Reads once, at most `limit` bytes and at most up to the end of the current packet. The
+/// connection receives the bytes, the end of the input, or the failure of the source. The limit
+/// must not be 0.
 pub fn hear_some<C: Conversation, A: Allocator + Copy, S: Source>(
     connection: &mut Connection<C, A>,
     source: &mut S,

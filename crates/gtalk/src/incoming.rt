@@ -61,8 +61,8 @@ impl<A: Allocator + Copy> Incoming<A> {
     }
 
     /// Appends received bytes. Their number must not exceed the number of missing bytes. If the
-    /// allocation fails, the stored bytes are unchanged. The call does not fail if the buffer has room
-    /// for a packet of the maximum size.
+    /// allocation fails, the stored bytes are unchanged. The call does not fail if the buffer has
+    /// room for a packet of the maximum size.
     #[tactic(auto, using(crate::proofs::Partials::within_after))]
     pub(crate) fn take_bytes(&mut self, bytes: &[u8]) -> Result<(), AllocError>
         requires { Lacks self.old.bytes (length bytes.now) }

@@ -10,9 +10,10 @@
 //! # Proved
 //!
 //! - The received bytes are the encodings of the packets that the conversation received, followed
-//!   by the bytes after the last packet (`IsStopped`). The sent bytes followed by the pending bytes are the canonical
-//!   encoding of the packets that the conversation queued (`Holds` in `specs/Connections.antt`).
-//!   The contract of each call states which bytes the call receives and sends (`Moves`).
+//!   by the bytes after the last packet (`IsStopped`). The sent bytes followed by the pending bytes
+//!   are the canonical encoding of the packets that the conversation queued (`Holds` in
+//!   `specs/Connections.antt`). The contract of each call states which bytes the call receives and
+//!   sends (`Moves`).
 //! - While more packets may arrive, [`Connection::receive_limit`] is at least one byte, and no call
 //!   accepts more bytes than this limit. Therefore no byte after the last packet is read.
 //! - A conversation receives the reason why no more packets arrive ([`Stop`]). `Failed` is reported
@@ -26,8 +27,8 @@
 //! - [`drive`] fails with `Io` only if the sink has failed. After a failure, all packets of earlier
 //!   turns are flushed, and a prefix of the packets of the last turn is written (`BreaksOff`).
 //! - [`converse`] calls the sink only in turns that queue packets, and flushes only those turns. If
-//!   it sends no byte, the sink is unchanged (`HasSent`). If the sink fails, the last turn queued at
-//!   least one packet, and all packets of earlier turns are flushed (`FailsInTurn`).
+//!   it sends no byte, the sink is unchanged (`HasSent`). If the sink fails, the last turn queued
+//!   at least one packet, and all packets of earlier turns are flushed (`FailsInTurn`).
 //! - [`speak_turn`] and [`hear_some`] make one turn and one read of [`converse`].
 //! - A connection that uses the buffers of a [`Room`] does not run out of memory (`HasRoom`), until
 //!   [`Connection::give_back`] frees the send queue.

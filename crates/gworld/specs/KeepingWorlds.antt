@@ -66,15 +66,15 @@ AddsUnkept keeps _ = ⊥
 abbrev pub RefusesUnkept : {A : Type 0} → (Id → Type 0) → WorldState A → Event A → Outcome → WorldState A → Type 0
 RefusesUnkept keeps w event outcome new = AddsUnkept keeps event × IsRefused not_kept w outcome new
 
--- The event `Deliver` or `Forge` leaves an indexer that keeps each object that the client's graph gained. Any other event
--- leaves the indexer unchanged.
+-- The event `Deliver` or `Forge` leaves an indexer that keeps each object that the client's graph gained. Any other
+-- event leaves the indexer unchanged.
 abbrev pub KeepsAt : {A I : Type 0} → (I → Id → Type 0) → Event A → I → I → List (Entry A) → List (Entry A) → Type 0
 KeepsAt keeps (event.Deliver number count) before after old new = KeepsOn (keeps before) (keeps after) old new
 KeepsAt keeps (event.Forge bytes) before after old new = KeepsOn (keeps before) (keeps after) old new
 KeepsAt keeps _ before after old new = after ≡ before
 
--- A step that keeps its promises. If the event is `ClientAdd`, the id of its object is kept. The indexer still keeps all
--- that it kept before, and keeps each object that the client's graph gained. Only `Deliver` and `Forge` change the
+-- A step that keeps its promises. If the event is `ClientAdd`, the id of its object is kept. The indexer still keeps
+-- all that it kept before, and keeps each object that the client's graph gained. Only `Deliver` and `Forge` change the
 -- indexer.
 pub record PromisesKept {A P I : Type 0} (tools : PackTools A) (keeps : I → Id → Type 0) (s : KeptWorld A P I)
     (event : Event A) (outcome : Outcome) (new : KeptWorld A P I) : Type 0 where
@@ -83,8 +83,8 @@ pub record PromisesKept {A P I : Type 0} (tools : PackTools A) (keeps : I → Id
   pub keeps_on : KeepsOn (keeps s.indexer) (keeps new.indexer) s.world.repo.graph.entries new.world.repo.graph.entries
   pub keeps_at : KeepsAt keeps event s.indexer new.indexer s.world.repo.graph.entries new.world.repo.graph.entries
 
--- A step keeps its promises. Or its event adds an object whose id is not kept, and fails. Then the indexer is unchanged.
--- No step changes the packer.
+-- A step keeps its promises. Or its event adds an object whose id is not kept, and fails. Then the indexer is
+-- unchanged. No step changes the packer.
 abbrev pub KeptPromises : {A P I : Type 0} → PackTools A → (I → Id → Type 0) → KeptWorld A P I → Event A → Outcome
     → KeptWorld A P I → Type 0
 KeptPromises tools keeps s event outcome new =

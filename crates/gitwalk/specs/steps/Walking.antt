@@ -51,8 +51,8 @@ IsCovered walk a = IsDecided walk.fates a ⊎ ((kind : ObjectType) × IsReceived
 abbrev pub IsDecidedAs : Fates → Link → Type 0
 IsDecidedAs fates link = (decided : Decided) × (decided_at fates link.id ≡ Some decided) × ((decided.kind ≡ None) ⊎ (decided.kind ≡ Some link.kind))
 
--- The received pack has the object, with the type of the link. Or the fate of the object is decided, and no earlier link
--- gives the object another type.
+-- The received pack has the object, with the type of the link. Or the fate of the object is decided, and no earlier
+-- link gives the object another type.
 abbrev pub LeadsToCovered : {A : Type 0} → Walk A → Link → Type 0
 LeadsToCovered walk link = IsReceived walk link ⊎ IsDecidedAs walk.fates link
 

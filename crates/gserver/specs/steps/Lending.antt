@@ -1,4 +1,5 @@
--- The server's end of a dialogue with a borrowed server and a borrowed packer: its answers, and the end of its dialogue.
+-- The server's end of a dialogue with a borrowed server and a borrowed packer: its answers, and the end of its
+-- dialogue.
 use Rattle.std.specs.Prelude.{◌≡◌, ◌≢◌, ◌⊎◌, ◌+◌, ◌<◌, ℕ, Bool, true, false, nat_lt, List, [], ◌++◌, length, drop, Option}
 use Rattle.std.specs.Prelude.{Some, None, Result, Ok, Err, flat_map}
 use Rattle.std.specs.Io.KnownBytes.{Appends}

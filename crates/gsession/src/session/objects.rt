@@ -136,8 +136,8 @@ impl<A: Allocator + Copy> Session<A> {
     /// Fails with `NoOpenRequest` if no request for objects is open, or if the reply has no pack
     /// although the request requires one. Any other fault ends the session. A fault leaves the
     /// repository unchanged. Fails with `StrangeAck` if an acknowledged id is not a have. Otherwise
-    /// fails with `Index` if the indexer rejected the pack. Otherwise fails with `Repo` if the graph
-    /// rejects the objects, or if out of memory.
+    /// fails with `Index` if the indexer rejected the pack. Otherwise fails with `Repo` if the
+    /// graph rejects the objects, or if out of memory.
     pub fn accept_objects<K: KeepingIndexer<A>>(
         &mut self,
         repo: &mut Repo<A>,

@@ -18,9 +18,9 @@ use gscenario::Event;
 use std::alloc::{AllocError, Allocator};
 
 impl<A: Allocator + Copy> Parts<A> {
-    // Executes one event. Requires a sound world. Also requires that the event is not `ClientAdd`, or
-    // that the indexer keeps the id of its object. The world is sound afterwards, and the step keeps
-    // its promises.
+    // Executes one event. Requires a sound world. Also requires that the event is not `ClientAdd`,
+    // or that the indexer keeps the id of its object. The world is sound afterwards, and the step
+    // keeps its promises.
     fn step<P: Packer<A>, I: FindingIndexer<A>>(
         &mut self,
         event: &Event<A>,
@@ -54,8 +54,8 @@ impl<A: Allocator + Copy> Parts<A> {
         Ok(outcome)
     }
 
-    // Executes one event, but refuses an event `ClientAdd` if the indexer does not keep the id of its
-    // object. Requires a sound world. The world is sound afterwards.
+    // Executes one event, but refuses an event `ClientAdd` if the indexer does not keep the id of
+    // its object. Requires a sound world. The world is sound afterwards.
     fn step_or_refuse<P: Packer<A>, I: FindingIndexer<A>>(
         &mut self,
         event: &Event<A>,
