@@ -42,6 +42,6 @@ pub record CannotGreet (hello : Hello) (input : Input) (output : Output) : Type 
   pub unread : IsUnread input
 
 -- the effect of a call that tries to write and flush these bytes
-abbrev pub HasPassed : {E : Type 0} → Output → Result (Unit {0}) E → Bytes → Type 0
-HasPassed output (Ok done) bytes = Passes output bytes
-HasPassed output (Err failed) bytes = FailsToSend output bytes
+abbrev pub PassesOrFails : {E : Type 0} → Output → Result (Unit {0}) E → Bytes → Type 0
+PassesOrFails output (Ok done) bytes = Passes output bytes
+PassesOrFails output (Err failed) bytes = FailsToSend output bytes

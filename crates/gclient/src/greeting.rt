@@ -2,7 +2,7 @@
 
 ghost use Rattle.std.specs.Prelude.{◌≡◌, false};
 ghost use Rattle.gpkt.specs.Streams.{SameSink, given};
-ghost use Rattle.gclient.specs.Greetings.{HasPassed, hello_bytes};
+ghost use Rattle.gclient.specs.Greetings.{PassesOrFails, hello_bytes};
 
 use ghello::{Hello, write_hello};
 use gpkt::laws::writes_join;
@@ -13,7 +13,7 @@ use std::alloc::Allocator;
 ///
 /// Fails if the sink fails. The sink has then received a prefix of the line.
 pub fn greet<W: Sink, A: Allocator + Copy>(hello: &Hello<A>, sink: &mut W) -> Result<(), WriteFault>
-    ensures greets { HasPassed (given W.Sink sink.old sink.new)
+    ensures greets { PassesOrFails (given W.Sink sink.old sink.new)
         result (hello_bytes hello.now) }
     ensures loans { SameSink W.Sink sink.old sink.new }
 {
@@ -28,7 +28,7 @@ fn send_hello<W: Sink, A: Allocator + Copy>(
     writer: &mut PacketWriter<W>,
 ) -> Result<(), WriteFault>
     requires well { writer.old.failed ≡ false }
-    ensures sent { HasPassed (given W.Sink writer.old.sink writer.new.sink) result (hello_bytes hello.now) }
+    ensures sent { PassesOrFails (given W.Sink writer.old.sink writer.new.sink) result (hello_bytes hello.now) }
     ensures loans { SameSink W.Sink writer.old.sink writer.new.sink }
 {
     // Laws that the proof uses.

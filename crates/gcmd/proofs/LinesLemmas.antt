@@ -16,7 +16,7 @@ use Rattle.gpkt.specs.declared.device.Sink.{Ghosts as SinkGhosts}
 use Rattle.gpkt.specs.declared.device.Source.{Ghosts as SourceGhosts}
 use Rattle.gpkt.specs.declared.fault.PacketFault.{PacketFault}
 use Rattle.gcmd.specs.Lines.{digits_part, max_lines, shown_line, shown_lines}
-use Rattle.gcmd.specs.steps.Lines.{ShowsEach, HasPassed}
+use Rattle.gcmd.specs.steps.Lines.{ShowsEach, ShowsAndFlushes}
 use Rattle.gpkt.specs.Streams.{OnBoth, SameSink, SameSource}
 use Rattle.gcmd.specs.steps.Outputs.{Puts}
 use Rattle.gpkt.proofs.Joins.{IsSome-kept}
@@ -130,7 +130,7 @@ module _ {S W : Type 0} (source : SourceGhosts S) (sink : SinkGhosts W) where
 
   -- the effect of showing each packet, with a flush
   abbrev pub Passes : (s t : S) (a b : W) → Result (Result (Unit {0}) PacketFault) Down → Type 0
-  Passes s t a b result = OnBoth source s t sink a b (λ read written. HasPassed read written result)
+  Passes s t a b result = OnBoth source s t sink a b (λ read written. ShowsAndFlushes read written result)
 
   module _ (s t : S) (a b c : W) where
     -- the packets are shown, and the flush succeeds

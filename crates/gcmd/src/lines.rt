@@ -4,7 +4,7 @@ ghost use Rattle.std.specs.Prelude.{◌≡◌, ◌+◌, ◌≤◌, ◌++◌, cod
 ghost use Rattle.std.specs.Fmt.{decimal};
 ghost use Rattle.hex.specs.Hex.{encode_lower};
 ghost use Rattle.gpkt.specs.Packets.{packet_of};
-ghost use Rattle.gcmd.specs.steps.Lines.{chunk, ShowsEach, HasPassed};
+ghost use Rattle.gcmd.specs.steps.Lines.{chunk, ShowsEach, ShowsAndFlushes};
 ghost use Rattle.gcmd.specs.Lines.{digits_part, shown_line, ShowsLines};
 ghost use Rattle.gcmd.specs.Programs.{Runs};
 ghost use Rattle.gpkt.specs.Streams.{given, OnBoth, SameSink, SameSource, taken};
@@ -77,7 +77,7 @@ fn pass_each<A: Allocator + Copy, S: Source, W: Sink>(
 ) -> Result<Result<(), PacketFault>, Down>
     requires { reader.old.failed ≡ false }
     ensures { OnBoth S.Source reader.old.source reader.new.source W.Sink output.old output.new
-        (λ read written. HasPassed read written result) }
+        (λ read written. ShowsAndFlushes read written result) }
 {
     let ended = show_each(reader, output)?;
     output.flush()?;

@@ -24,7 +24,7 @@ ShowsEach input output (Err down) =
     (lines : List Packet) × ReadsSome input lines × FailsAtWrite output (shown_lines lines)
 
 -- the packets are shown and flushed
-abbrev pub HasPassed : Input → Output → Result (Result (Unit {0}) PacketFault) Down → Type 0
-HasPassed input output (Ok ended) =
+abbrev pub ShowsAndFlushes : Input → Output → Result (Result (Unit {0}) PacketFault) Down → Type 0
+ShowsAndFlushes input output (Ok ended) =
     (lines : List Packet) × ReadsEach input lines ended × Sends output (shown_lines lines)
-HasPassed input output (Err down) = ShowsSome input output
+ShowsAndFlushes input output (Err down) = ShowsSome input output
