@@ -8,7 +8,7 @@ use std::alloc::{AllocError, Allocator};
 const SLOTS: usize = 8_192;
 
 /// The location of a pack entry: the number of its pack, and its offset in the pack.
-#[derive(Clone, Copy, Debug, PartialEq, Eq)]
+#[derive(Clone, Copy, PartialEq, Eq)]
 pub(crate) struct Spot {
     pub(crate) pack: usize,
     pub(crate) start: usize,

@@ -22,7 +22,7 @@ struct Chain<A: Allocator + Copy> {
 }
 
 // An entry of a chain that cannot be read: its offset, and the cause.
-#[derive(Clone, Copy, Debug, Drop)]
+#[derive(Clone, Copy, Drop)]
 struct Broken {
     start: usize,
     cause: Cause,

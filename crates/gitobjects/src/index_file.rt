@@ -61,14 +61,14 @@ pub(crate) struct IndexFile<P: OpenPack + Drop, A: Allocator + Copy> {
 }
 
 // A range of positions in the index: from `low` up to but excluding `high`.
-#[derive(Clone, Copy, Debug, PartialEq, Eq)]
+#[derive(Clone, Copy, PartialEq, Eq)]
 struct Places {
     low: usize,
     high: usize,
 }
 
 // The result of a look-up in a part of the sorted ids.
-#[derive(Clone, Copy, Debug)]
+#[derive(Clone, Copy)]
 enum SearchResult {
     // The id is at this position of the part.
     At(usize),

@@ -9,7 +9,7 @@ use crate::files::FolderTime;
 
 /// The number of times that a pack folder was listed since the names in it last changed, and the
 /// time of this change. The time is `None` if the folder is missing or its time is unknown.
-#[derive(Clone, Copy, Debug)]
+#[derive(Clone, Copy)]
 pub(crate) enum Listed {
     /// The folder was never listed.
     Never,

@@ -27,7 +27,7 @@ pub(crate) struct PackFile<A: Allocator + Copy> {
 }
 
 /// The form of a pack entry: a whole object, or a delta with the offset of its base.
-#[derive(Clone, Copy, Debug, PartialEq, Eq)]
+#[derive(Clone, Copy)]
 pub(crate) enum LocalForm {
     /// A whole object of this type.
     Whole(ObjectType),

@@ -43,7 +43,7 @@ struct QuickEntry<A: Allocator + Copy> {
 }
 
 // The form of a pack entry: a whole object, or a delta with the offset of its base.
-#[derive(Clone, Copy, Debug)]
+#[derive(Clone, Copy)]
 enum LocalForm {
     // A whole object of this type.
     Whole(ObjectType),
