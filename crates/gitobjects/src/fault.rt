@@ -239,11 +239,11 @@ impl<A: Allocator + Copy> FirstFault<A> {
         Ok(())
     }
 
-    /// Fails with the fault of the first broken copy, if a fault was recorded.
-    pub(crate) fn finish(self) -> Result<(), StoreFault<A>> {
+    /// Fails with the fault of the first broken copy. Returns `None` if no fault was recorded.
+    pub(crate) fn finish<T: Drop>(self) -> Result<Option<T>, StoreFault<A>> {
         match self.fault {
             Some(fault) => Err(fault),
-            None => Ok(()),
+            None => Ok(None),
         }
     }
 }

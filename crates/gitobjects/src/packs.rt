@@ -143,8 +143,8 @@ fn time_of<F: ObjectFiles, A: Allocator + Copy>(
     }
 }
 
-// Returns the names of the packs whose index is in a folder.
-fn stems_in<F: ObjectFiles, A: Allocator + Copy>(
+/// Returns the names of the packs whose index is in a folder.
+pub(crate) fn stems_in<F: ObjectFiles, A: Allocator + Copy>(
     files: &F,
     alloc: A,
     folder: &str,

@@ -6,8 +6,8 @@ ghost use Rattle.gitobject.specs.Naming.{id_of};
 use crate::alternates::{Folder, object_folders};
 use crate::fault::{Cause, StoreFault};
 use crate::files::ObjectFiles;
-use crate::listing::index_stems;
 use crate::object::Object;
+use crate::packs::stems_in;
 use crate::paths::{join, loose_path};
 use crate::quick_pack::{QuickPack, open_quick};
 use crate::store::{read_kind, read_loose_file};
@@ -62,8 +62,10 @@ impl<'f, F: ObjectFiles, A: Allocator + Copy> QuickReader<'f, F, A> {
     /// Returns whether the reader finds the object with this id. Fails only if out of memory.
     pub fn holds(&mut self, id: &Oid) -> Result<bool, AllocError> {
         for pack in self.packs.iter_mut() {
-            if or_unknown(pack.holds(id))? == Some(true) {
-                return Ok(true);
+            match pack.holds(id) {
+                Ok(true) => return Ok(true),
+                Err(Cause::Memory) => return Err(AllocError),
+                Ok(false) | Err(_) => {}
             }
         }
         self.holds_loose(id)
@@ -72,22 +74,29 @@ impl<'f, F: ObjectFiles, A: Allocator + Copy> QuickReader<'f, F, A> {
     // Returns whether the object with this id is loose.
     fn holds_loose(&self, id: &Oid) -> Result<bool, AllocError> {
         for folder in &self.folders {
-            let path = or_unknown(loose_path(self.alloc, folder.path.as_str(), id))?;
-            if let Some(path) = path {
-                if or_unknown(self.files.exists(path.as_str()))? == Some(true) {
-                    return Ok(true);
-                }
+            match self.holds_in(folder.path.as_str(), id) {
+                Ok(true) => return Ok(true),
+                Err(Cause::Memory) => return Err(AllocError),
+                Ok(false) | Err(_) => {}
             }
         }
         Ok(false)
+    }
+
+    // Returns whether an object folder has the loose object with this id.
+    fn holds_in(&self, folder: &str, id: &Oid) -> Result<bool, Cause> {
+        let path = loose_path(self.alloc, folder, id)?;
+        self.files.exists(path.as_str())
     }
 
     /// Returns the type of the object with this id, or `None` if the object is not found. The
     /// object is not inflated as a whole. Fails only if out of memory.
     pub fn kind_of(&mut self, id: &Oid) -> Result<Option<ObjectType>, AllocError> {
         for pack in self.packs.iter_mut() {
-            if let Some(Some(kind)) = or_unknown(pack.kind_of(id))? {
-                return Ok(Some(kind));
+            match pack.kind_of(id) {
+                Ok(Some(kind)) => return Ok(Some(kind)),
+                Err(Cause::Memory) => return Err(AllocError),
+                Ok(None) | Err(_) => {}
             }
         }
         self.kind_of_loose(id)
@@ -96,12 +105,11 @@ impl<'f, F: ObjectFiles, A: Allocator + Copy> QuickReader<'f, F, A> {
     // Returns the type of the loose object with this id, or `None` if no loose object is found.
     fn kind_of_loose(&mut self, id: &Oid) -> Result<Option<ObjectType>, AllocError> {
         for folder in &self.folders {
-            let path = or_unknown(loose_path(self.alloc, folder.path.as_str(), id))?;
-            if let Some(path) = path {
-                let kind = read_kind(self.files, self.alloc, path.as_str(), &mut *self.inflater);
-                if let Some(Some(kind)) = or_unknown(kind)? {
-                    return Ok(Some(kind));
-                }
+            let folder = folder.path.as_str();
+            match read_kind(self.files, self.alloc, folder, id, &mut *self.inflater) {
+                Ok(Some(kind)) => return Ok(Some(kind)),
+                Err(Cause::Memory) => return Err(AllocError),
+                Ok(None) | Err(_) => {}
             }
         }
         Ok(None)
@@ -122,8 +130,10 @@ impl<'f, F: ObjectFiles, A: Allocator + Copy> QuickReader<'f, F, A> {
 
     fn read(&mut self, id: &Oid) -> Result<Option<Object<A>>, AllocError> {
         for pack in self.packs.iter_mut() {
-            if let Some(Some(object)) = or_unknown(pack.read(id, &mut *self.inflater))? {
-                return Ok(Some(object));
+            match pack.read(id, &mut *self.inflater) {
+                Ok(Some(object)) => return Ok(Some(object)),
+                Err(Cause::Memory) => return Err(AllocError),
+                Ok(None) | Err(_) => {}
             }
         }
         self.read_loose(id)
@@ -132,21 +142,28 @@ impl<'f, F: ObjectFiles, A: Allocator + Copy> QuickReader<'f, F, A> {
     // Returns the loose object with this id, or `None` if no loose object is found.
     fn read_loose(&mut self, id: &Oid) -> Result<Option<Object<A>>, AllocError> {
         for folder in &self.folders {
-            let path = or_unknown(loose_path(self.alloc, folder.path.as_str(), id))?;
-            if let Some(path) = path {
-                let object = read_loose_file(
-                    self.files,
-                    self.alloc,
-                    path.as_str(),
-                    &mut *self.inflater,
-                );
-                if let Some(Some(object)) = or_unknown(object)? {
-                    return Ok(Some(object));
-                }
+            let folder = folder.path.as_str();
+            match read_loose_in(self.files, self.alloc, folder, id, &mut *self.inflater) {
+                Ok(Some(object)) => return Ok(Some(object)),
+                Err(Cause::Memory) => return Err(AllocError),
+                Ok(None) | Err(_) => {}
             }
         }
         Ok(None)
     }
+}
+
+// Returns the loose object with this id in an object folder, or `None` if the folder has no such
+// object.
+fn read_loose_in<F: ObjectFiles, A: Allocator + Copy>(
+    files: &F,
+    alloc: A,
+    folder: &str,
+    id: &Oid,
+    inflater: &mut Inflater,
+) -> Result<Option<Object<A>>, Cause> {
+    let path = loose_path(alloc, folder, id)?;
+    read_loose_file(files, alloc, path.as_str(), inflater)
 }
 
 // Opens the packs of these folders. Unusable packs, and the packs of a folder that cannot be listed,
@@ -159,7 +176,9 @@ fn packs_in<F: ObjectFiles, A: Allocator + Copy>(
     let mut packs = Vec::new(alloc);
     for folder in folders {
         let folder = folder.pack_folder.as_str();
-        let _listed = or_unknown(add_packs(files, alloc, folder, &mut packs))?;
+        if let Err(Cause::Memory) = add_packs(files, alloc, folder, &mut packs) {
+            return Err(AllocError);
+        }
     }
     Ok(packs)
 }
@@ -170,22 +189,11 @@ fn add_packs<F: ObjectFiles, A: Allocator + Copy>(
     folder: &str,
     packs: &mut Vec<QuickPack<F::Pack, A>, A>,
 ) -> Result<(), Cause> {
-    let names = files.list(alloc, folder)?;
-    let stems = index_stems(alloc, names.as_slice())?;
+    let stems = stems_in(files, alloc, folder)?;
     for stem in &stems {
         if let Some(pack) = open_quick(files, alloc, folder, stem.as_str())? {
             packs.push(pack)?;
         }
     }
     Ok(())
-}
-
-// Returns the value of `outcome`, or `None` if `outcome` is a failure with a cause other than
-// `Memory`. Fails if the cause is `Memory`.
-fn or_unknown<T: Drop>(outcome: Result<T, Cause>) -> Result<Option<T>, AllocError> {
-    match outcome {
-        Ok(value) => Ok(Some(value)),
-        Err(Cause::Memory) => Err(AllocError),
-        Err(_) => Ok(None),
-    }
 }

@@ -29,8 +29,9 @@ pub struct ObjectReader<'f, F: ObjectFiles, A: Allocator + Copy> {
 impl<'f, F: ObjectFiles, A: Allocator + Copy> ObjectReader<'f, F, A> {
     /// Returns a reader of a store. Fails only if out of memory.
     pub fn new(store: ObjectStore<'f, F, A>) -> Result<ObjectReader<'f, F, A>, AllocError> {
-        let cache = BaseCache::new(store.allocator())?;
-        let inflater = Box::new(store.allocator(), Inflater::new())?;
+        let alloc = store.allocator();
+        let cache = BaseCache::new(alloc)?;
+        let inflater = Box::new(alloc, Inflater::new())?;
         Ok(ObjectReader {
             store,
             inflater,
@@ -85,9 +86,10 @@ impl<'f, F: ObjectFiles, A: Allocator + Copy> ObjectReader<'f, F, A> {
         } else {
             first
         };
-        match last? {
-            Some(object) => Ok(object),
-            None => Err(self.store.missing(id)),
+        match last {
+            Ok(Some(object)) => Ok(object),
+            Ok(None) => Err(self.store.missing(id)),
+            Err(fault) => Err(fault),
         }
     }
 
@@ -171,8 +173,7 @@ impl<'f, F: ObjectFiles, A: Allocator + Copy> ObjectReader<'f, F, A> {
             Ok(None) => {}
             Err(fault) => faults.note(fault)?,
         }
-        faults.finish()?;
-        Ok(None)
+        faults.finish()
     }
 
     // Returns the object with this id in a pack, or `None` if the pack has no such object.

@@ -156,8 +156,7 @@ impl<'f, F: ObjectFiles, A: Allocator + Copy> ObjectStore<'f, F, A> {
                 Err(fault) => faults.note(fault)?,
             }
         }
-        faults.finish()?;
-        Ok(None)
+        faults.finish()
     }
 
     /// Returns the location of the object with this id, as [`ObjectStore::find`] does. `folders`
@@ -336,8 +335,7 @@ impl<'f, F: ObjectFiles, A: Allocator + Copy> ObjectStore<'f, F, A> {
                 Err(fault) => faults.note(fault)?,
             }
         }
-        faults.finish()?;
-        Ok(None)
+        faults.finish()
     }
 
     fn read_loose_in(
@@ -366,8 +364,7 @@ impl<'f, F: ObjectFiles, A: Allocator + Copy> ObjectStore<'f, F, A> {
         inflater: &mut Inflater,
     ) -> Result<Option<ObjectType>, Cause> {
         for folder in &self.folders {
-            let path = loose_path(self.alloc, folder.path.as_str(), id)?;
-            match read_kind(self.files, self.alloc, path.as_str(), inflater) {
+            match read_kind(self.files, self.alloc, folder.path.as_str(), id, inflater) {
                 Ok(Some(kind)) => return Ok(Some(kind)),
                 Err(Cause::Memory) => return Err(Cause::Memory),
                 Ok(None) | Err(_) => {}
@@ -390,15 +387,17 @@ pub(crate) fn read_loose_file<F: ObjectFiles, A: Allocator + Copy>(
     }
 }
 
-/// Returns the type of the loose object in a file. Returns `None` if there is no such file, or if
-/// the start of the file does not determine the type.
+/// Returns the type of the loose object with this id in an object folder. Returns `None` if there
+/// is no such file, or if the start of the file does not determine the type.
 pub(crate) fn read_kind<F: ObjectFiles, A: Allocator + Copy>(
     files: &F,
     alloc: A,
-    path: &str,
+    folder: &str,
+    id: &Oid,
     inflater: &mut Inflater,
 ) -> Result<Option<ObjectType>, Cause> {
-    match files.read_front(alloc, path, MAX_FRONT)? {
+    let path = loose_path(alloc, folder, id)?;
+    match files.read_front(alloc, path.as_str(), MAX_FRONT)? {
         Some(front) => loose_kind(alloc, inflater, front.as_slice()),
         None => Ok(None),
     }
