@@ -15,14 +15,27 @@ pub(crate) fn first_conflict<'n, A: Allocator + Copy>(
 ) -> Result<Option<&'n RefName<A>>, AllocError> {
     let mut prefixes = Vec::new(alloc);
     for name in names {
-        let text = name.as_bytes();
-        retain_prefixes(&mut prefixes, text);
-        if has_directory_among(prefixes.as_slice(), text) {
+        if !push_apart(&mut prefixes, name.as_bytes())? {
             return Ok(Some(*name));
         }
-        prefixes.push(text)?;
     }
     Ok(None)
+}
+
+// Retains only the prefixes of `text`, and appends `text`. Returns `false` instead if a prefix and
+// a slash are the start of `text`. Fails only if out of memory.
+fn push_apart<'n, A: Allocator + Copy>(
+    prefixes: &mut Vec<&'n [u8], A>,
+    text: &'n [u8],
+) -> Result<bool, AllocError> {
+    retain_prefixes(prefixes, text);
+    if has_directory_among(prefixes.as_slice(), text) {
+        return Ok(false);
+    }
+    match prefixes.push(text) {
+        Ok(()) => Ok(true),
+        Err(_) => Err(AllocError),
+    }
 }
 
 // Retains only the prefixes of `text`. Each name in `prefixes` must be a prefix of the next name in
@@ -41,7 +54,7 @@ fn retain_prefixes<A: Allocator + Copy>(prefixes: &mut Vec<&[u8], A>, text: &[u8
 // Returns whether one of these prefixes is followed by a slash in `text`.
 fn has_directory_among(prefixes: &[&[u8]], text: &[u8]) -> bool {
     for prefix in prefixes {
-        if text.get(prefix.len()) == Some(&b'/') {
+        if let Some(b'/') = text.get(prefix.len()) {
             return true;
         }
     }

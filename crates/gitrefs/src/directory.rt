@@ -132,14 +132,26 @@ impl<'r, R: Files, A: Allocator + Copy> GitDirectory<'r, R, A> {
         self.create_parents()?;
         match fs::create_dir(self.files, self.path) {
             Ok(()) => Ok(Origin::Made),
-            Err(error) if error.kind() == ErrorKind::AlreadyExists => {
-                if self.is_empty() {
-                    Ok(Origin::Found)
-                } else {
-                    Err(RefFault::at(self.alloc, self.path, Cause::Exists))
-                }
-            }
-            Err(error) => Err(RefFault::system(self.alloc, self.path, error)),
+            Err(error) => self.find_empty(error),
+        }
+    }
+
+    // Returns `Found` if the directory exists and is empty. `error` is the error of creating the
+    // directory, and becomes the fault otherwise.
+    fn find_empty(&self, error: io::Error) -> Result<Origin, RefFault<A>> {
+        if error.kind() == ErrorKind::AlreadyExists && self.is_empty() {
+            Ok(Origin::Found)
+        } else {
+            Err(self.creation_fault(self.path, error))
+        }
+    }
+
+    // Returns the fault for the error of creating the directory with this path.
+    fn creation_fault(&self, path: &str, error: io::Error) -> RefFault<A> {
+        if error.kind() == ErrorKind::AlreadyExists {
+            RefFault::at(self.alloc, self.path, Cause::Exists)
+        } else {
+            RefFault::system(self.alloc, path, error)
         }
     }
 
@@ -160,10 +172,7 @@ impl<'r, R: Files, A: Allocator + Copy> GitDirectory<'r, R, A> {
         let path = self.path_below(OBJECTS)?;
         match fs::create_dir(self.files, path.as_str()) {
             Ok(()) => Ok(()),
-            Err(error) if error.kind() == ErrorKind::AlreadyExists => {
-                Err(RefFault::at(self.alloc, self.path, Cause::Exists))
-            }
-            Err(error) => Err(RefFault::system(self.alloc, path.as_str(), error)),
+            Err(error) => Err(self.creation_fault(path.as_str(), error)),
         }
     }
 
@@ -239,7 +248,7 @@ impl<'r, R: Files, A: Allocator + Copy> GitDirectory<'r, R, A> {
     // Writes the configuration file.
     fn write_config(&self, config: &[u8]) -> Result<(), RefFault<A>> {
         let path = FilePath::of_config(self.alloc, self.path)?;
-        self.lock(path)?.replace(config)
+        self.replace(path, config)
     }
 
     fn make_directory(&self, name: &str) -> Result<(), RefFault<A>> {
@@ -280,7 +289,12 @@ impl<'r, R: Files, A: Allocator + Copy> GitDirectory<'r, R, A> {
 
     fn write_head(&self, text: &Vec<u8, A>) -> Result<(), RefFault<A>> {
         let path = self.path_of_head()?;
-        self.lock(path)?.replace(text.as_slice())
+        self.replace(path, text.as_slice())
+    }
+
+    // Locks and replaces the file with this path.
+    fn replace(&self, path: FilePath<A>, text: &[u8]) -> Result<(), RefFault<A>> {
+        self.lock(path)?.replace(text)
     }
 
     // Returns the path of HEAD.
@@ -320,11 +334,18 @@ impl<'r, R: Files, A: Allocator + Copy> GitDirectory<'r, R, A> {
             Some(peeled) => peeled_refs_text(self.alloc, refs, peeled)?,
             None => packed_refs_text(self.alloc, refs)?,
         };
-        let packed = self.lock(FilePath::of_packed_refs(self.alloc, self.path)?)?;
-        if !packed.text().is_empty() {
-            return Err(RefFault::at(self.alloc, packed.path(), Cause::Exists));
+        self.fill_packed_refs(text.as_slice())
+    }
+
+    // Writes `packed-refs`, which must be missing or empty.
+    fn fill_packed_refs(&self, text: &[u8]) -> Result<(), RefFault<A>> {
+        let path = FilePath::of_packed_refs(self.alloc, self.path)?;
+        let packed = self.lock(path)?;
+        if packed.text().is_empty() {
+            packed.replace(text)
+        } else {
+            Err(RefFault::at(self.alloc, packed.path(), Cause::Exists))
         }
-        packed.replace(text.as_slice())
     }
 
     // Checks that `HEAD` exists, as in every Git directory. Fails with `Missing` if not.
@@ -367,6 +388,11 @@ impl<'r, R: Files, A: Allocator + Copy> GitDirectory<'r, R, A> {
         if is_special(self.files, path.as_str()) {
             return Err(RefFault::at(self.alloc, path.as_str(), Cause::Malformed));
         }
+        self.read_file(path)
+    }
+
+    // Opens and reads a file, as `read` does. The path must not name a pipe.
+    fn read_file(&self, path: &FilePath<A>) -> Result<Option<Vec<u8, A>>, RefFault<A>> {
         match File::open(self.files, path.as_str()) {
             Ok(file) => self.read_open(path, file),
             Err(error) if is_absent(error.kind()) => Ok(None),

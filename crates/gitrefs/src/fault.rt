@@ -95,21 +95,20 @@ impl fmt::Display for Cause {
     ghost output = { cause_text };
 
     fn fmt<W: fmt::Write>(&self, f: &mut fmt::Formatter<W>) -> fmt::Result {
-        match self {
-            Cause::Malformed => f.write_str("the file is malformed"),
-            Cause::Locked => f.write_str("the file is locked"),
-            Cause::Exists => f.write_str("the file is there already"),
-            Cause::Missing => f.write_str("there is no git directory"),
-            Cause::Moved => f.write_str("the ref has moved meanwhile"),
-            Cause::Symbolic => f.write_str("the ref is symbolic"),
-            Cause::Conflict => {
-                f.write_str("the name of a ref is also that of a directory of refs")
-            }
-            Cause::Utf8 => f.write_str("the name of the ref is not UTF-8"),
-            Cause::Refs => f.write_str("the ref can't be set"),
-            Cause::Format => f.write_str("the new id is not a SHA-1 id"),
-            Cause::System(error) => fmt::Display::fmt(error, f),
-        }
+        let text = match self {
+            Cause::Malformed => "the file is malformed",
+            Cause::Locked => "the file is locked",
+            Cause::Exists => "the file is there already",
+            Cause::Missing => "there is no git directory",
+            Cause::Moved => "the ref has moved meanwhile",
+            Cause::Symbolic => "the ref is symbolic",
+            Cause::Conflict => "the name of a ref is also that of a directory of refs",
+            Cause::Utf8 => "the name of the ref is not UTF-8",
+            Cause::Refs => "the ref can't be set",
+            Cause::Format => "the new id is not a SHA-1 id",
+            Cause::System(error) => return fmt::Display::fmt(error, f),
+        };
+        f.write_str(text)
     }
 }
 

@@ -10,7 +10,7 @@ use std::io::ErrorKind;
 use std::marker::Model;
 
 /// The path of a file in a Git directory: a ref file, `HEAD`, `packed-refs` or `config`.
-#[derive(Debug, Drop)]
+#[derive(Drop)]
 pub(crate) struct FilePath<A: Allocator + Copy = Global> {
     text: String<A>,
 }

@@ -9,7 +9,7 @@ use crate::peels::{Peel, is_fully_peeled, peel_of};
 use crate::values::{NamedValue, ResolvedRefs, Values, head_of, refs_of, unless_null};
 use gname::RefName;
 use grefs::{Head, Refs, RefsFault};
-use std::alloc::{AllocError, Allocator, Global};
+use std::alloc::{Allocator, Global};
 use std::fs::{DirEntry, Files, Metadata, ReadDir};
 use std::io;
 use std::io::ErrorKind;
@@ -91,8 +91,15 @@ impl<R: Files, A: Allocator + Copy> GitDirectory<'_, R, A> {
         let head = head_of(self.alloc, &values)?;
         match refs_of(self.alloc, values) {
             Ok(resolved) => self.with_head(resolved, head),
-            Err(RefsFault::Memory) => Err(RefFault::Memory),
-            Err(RefsFault::Refs) => Err(RefFault::at(self.alloc, self.path, Cause::Refs)),
+            Err(fault) => Err(self.fault_of_refs(fault)),
+        }
+    }
+
+    // Converts a fault of `Refs`.
+    pub(crate) fn fault_of_refs(&self, fault: RefsFault) -> RefFault<A> {
+        match fault {
+            RefsFault::Memory => RefFault::Memory,
+            RefsFault::Refs => RefFault::at(self.alloc, self.path, Cause::Refs),
         }
     }
 
@@ -142,17 +149,14 @@ impl<R: Files, A: Allocator + Copy> GitDirectory<'_, R, A> {
     fn read_all(&self, walk: &mut Walk<A>) -> Result<(), RefFault<A>> {
         self.read_head(walk)?;
         self.read_loose(walk)?;
-        match add_packed(&mut walk.values, self.packed_refs()?) {
-            Ok(()) => Ok(()),
-            Err(_) => Err(RefFault::Memory),
-        }
+        add_packed(&mut walk.values, self.packed_refs()?)
     }
 
     // Reads HEAD, without resolving it.
     fn read_head(&self, walk: &mut Walk<A>) -> Result<(), RefFault<A>> {
         let head = RefName::head(self.alloc)?;
         match self.look(&head)? {
-            RefEntry::Ref(value) => Ok(push_loose(&mut walk.values, head, value)?),
+            RefEntry::Ref(value) => push_loose(&mut walk.values, head, value),
             _ => Ok(()),
         }
     }
@@ -245,10 +249,7 @@ impl<R: Files, A: Allocator + Copy> GitDirectory<'_, R, A> {
             return Ok(());
         };
         let entry = self.look_through(&name)?;
-        match add_entry(walk, text, name, entry) {
-            Ok(()) => Ok(()),
-            Err(_) => Err(RefFault::Memory),
-        }
+        add_entry(walk, text, name, entry)
     }
 
     // Looks up the path of a ref, as `look` does. A dangling symbolic link counts as a path that
@@ -314,10 +315,17 @@ impl<R: Files, A: Allocator + Copy> GitDirectory<'_, R, A> {
     // `refs/`.
     fn link_target(&self, path: &FilePath<A>) -> Result<Option<RefName<A>>, RefFault<A>> {
         match self.files.read_link(self.alloc, path.as_str()) {
-            Ok(target) if target.as_str().starts_with("refs/") => {
-                self.ref_name(target.as_str().as_bytes())
-            }
-            _ => Ok(None),
+            Ok(target) => self.name_below_refs(target.as_str()),
+            Err(_) => Ok(None),
+        }
+    }
+
+    // Returns the ref name `text`, or `None` if the text is not a ref name below `refs/`.
+    fn name_below_refs(&self, text: &str) -> Result<Option<RefName<A>>, RefFault<A>> {
+        if text.starts_with("refs/") {
+            self.ref_name(text.as_bytes())
+        } else {
+            Ok(None)
         }
     }
 
@@ -365,7 +373,7 @@ fn push_loose<A: Allocator + Copy>(
     values: &mut Values<A>,
     name: RefName<A>,
     value: Option<LooseRef<A>>,
-) -> Result<(), AllocError> {
+) -> Result<(), RefFault<A>> {
     let peel = None;
     values.push(NamedValue { name, value, peel })
 }
@@ -376,7 +384,7 @@ fn add_entry<A: Allocator + Copy>(
     text: String<A>,
     name: RefName<A>,
     entry: RefEntry<A>,
-) -> Result<(), AllocError> {
+) -> Result<(), RefFault<A>> {
     match entry {
         RefEntry::Empty => Ok(()),
         RefEntry::Directory => Ok(walk.directories.push(text)?),
@@ -389,7 +397,7 @@ fn add_entry<A: Allocator + Copy>(
 fn add_packed<A: Allocator + Copy>(
     values: &mut Values<A>,
     packed: PackedRefs<A>,
-) -> Result<(), AllocError> {
+) -> Result<(), RefFault<A>> {
     let PackedRefs { refs, are_peeled } = packed;
     for packed in refs {
         values.push(NamedValue {

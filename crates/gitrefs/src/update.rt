@@ -6,7 +6,7 @@ use crate::fault::{Cause, RefFault, TextFault};
 use crate::locked::{LockedFile, PreparedFile};
 use crate::loose::{LooseRef, parse_loose_ref};
 use gname::{Format, Oid, RefName};
-use grefs::{MAX_REFS, Refs, RefsFault};
+use grefs::{MAX_REFS, Refs};
 use std::alloc::{AllocError, Allocator, Global};
 use std::fs::Files;
 
@@ -92,6 +92,11 @@ impl<'r, R: Files, A: Allocator + Copy> GitDirectory<'r, R, A> {
     pub fn check_updates(&self, updates: &[RefUpdate<A>]) -> Result<(), RefFault<A>> {
         self.check_repository()?;
         self.check_formats(updates)?;
+        self.check_names(updates)
+    }
+
+    // Checks the names of the updates, and how many refs there are after the updates.
+    fn check_names(&self, updates: &[RefUpdate<A>]) -> Result<(), RefFault<A>> {
         let (refs, _) = self.read_refs()?;
         self.check_count(&refs, updates)?;
         self.check_conflicts(&refs, updates)
@@ -187,12 +192,8 @@ impl<'r, R: Files, A: Allocator + Copy> GitDirectory<'r, R, A> {
             if refs.get(&packed.name).is_some() {
                 continue;
             }
-            match refs.set(packed.name, packed.id) {
-                Ok(()) => {}
-                Err(RefsFault::Memory) => return Err(RefFault::Memory),
-                Err(RefsFault::Refs) => {
-                    return Err(RefFault::at(self.alloc, self.path, Cause::Refs));
-                }
+            if let Err(fault) = refs.set(packed.name, packed.id) {
+                return Err(self.fault_of_refs(fault));
             }
         }
         Ok(refs)
@@ -220,17 +221,13 @@ impl<'r, R: Files, A: Allocator + Copy> GitDirectory<'r, R, A> {
     // Returns the id of a loose ref whose file is locked. Fails with `Symbolic` if the ref is
     // symbolic.
     fn loose_id(&self, file: &LockedFile<'_, R, A>) -> Result<Oid, RefFault<A>> {
-        let value = match parse_loose_ref(self.alloc, file.text()) {
-            Ok(value) => value,
+        let cause = match parse_loose_ref(self.alloc, file.text()) {
+            Ok(LooseRef::Id(id)) => return Ok(id),
+            Ok(LooseRef::Symref(_)) => Cause::Symbolic,
+            Err(TextFault::Malformed) => Cause::Malformed,
             Err(TextFault::Memory) => return Err(RefFault::Memory),
-            Err(TextFault::Malformed) => {
-                return Err(RefFault::at(self.alloc, file.path(), Cause::Malformed));
-            }
         };
-        match &value {
-            LooseRef::Id(id) => Ok(*id),
-            LooseRef::Symref(_) => Err(RefFault::at(self.alloc, file.path(), Cause::Symbolic)),
-        }
+        Err(RefFault::at(self.alloc, file.path(), cause))
     }
 }
 

@@ -1,5 +1,6 @@
 //! The values in ref files, and the resolution of symbolic refs.
 
+use crate::fault::RefFault;
 use crate::loose::LooseRef;
 use crate::peels::Peel;
 use gname::{Oid, RefName};
@@ -47,14 +48,14 @@ impl<A: Allocator + Copy> Values<A> {
     }
 
     /// Adds a ref. If two refs have the same name, the ref that was added first takes precedence.
-    pub(crate) fn push(&mut self, value: NamedValue<A>) -> Result<(), AllocError> {
+    pub(crate) fn push(&mut self, value: NamedValue<A>) -> Result<(), RefFault<A>> {
         self.values.push(value)?;
         Ok(())
     }
 
     /// Sorts the refs by name, and keeps only the first ref of each name. A caller must call `sort`
     /// before any function except `push`.
-    pub(crate) fn sort(&mut self) -> Result<(), AllocError> {
+    pub(crate) fn sort(&mut self) -> Result<(), RefFault<A>> {
         if self.values.is_sorted_by(|one, next| one.name < next.name) {
             return Ok(());
         }
