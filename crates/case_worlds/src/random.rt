@@ -63,14 +63,14 @@ pub fn simulate_at_random(
     let random_run = parse_random_run(fact.text.as_slice(), server, fact.format);
     match find_failure(alloc, random_run)? {
         Some(failure) => Ok(failure),
-        None => Ok(String::from_str(alloc, "whole")?),
+        None => String::from_str(alloc, "whole").map_err(Trouble::from),
     }
 }
 
 fn find_failure(alloc: Global, random_run: RandomRun<'_>) -> Result<Option<String>, Trouble> {
-    match run_random_events(alloc, random_run)? {
-        Some(failure) => Ok(Some(failure)),
-        None => find_failure_with_refusals(alloc, random_run),
+    match run_random_events(alloc, random_run) {
+        Ok(None) => find_failure_with_refusals(alloc, random_run),
+        failure => failure,
     }
 }
 
@@ -81,58 +81,36 @@ fn find_failure_with_refusals(
     let mut with_refusals = random_run;
     with_refusals.refuses_allocations = true;
     with_refusals.seed = random_run.seed.wrapping_add(1);
-    match run_random_events(alloc, with_refusals)? {
-        Some(failure) => Ok(Some(failure)),
-        None => find_failure_with_faulty_tools(alloc, random_run),
+    match run_random_events(alloc, with_refusals) {
+        Ok(None) => find_failure_with_faulty_tools(alloc, random_run),
+        failure => failure,
     }
 }
 
-// Runs the events with each faulty packer and indexer. Returns a description of the first failure,
-// if any.
+// Runs a quarter of the events with each faulty packer and indexer. Returns a description of the
+// first failure, if any.
 fn find_failure_with_faulty_tools(
     alloc: Global,
     random_run: RandomRun<'_>,
 ) -> Result<Option<String>, Trouble> {
-    let mut seed = random_run.seed;
-    for pack_tool in FAULTY_PACK_TOOLS {
-        seed = seed.wrapping_add(1);
-        if let Some(failure) = run_random_events(
-            alloc,
-            with_faulty_tool(random_run, pack_tool, seed),
-        )? {
-            return Ok(Some(failure));
+    let mut faulty_run = random_run;
+    faulty_run.count = random_run.count / 4;
+    for pack_tool in &FAULTY_PACK_TOOLS {
+        faulty_run.seed = faulty_run.seed.wrapping_add(1);
+        faulty_run.inputs.tools.pack_tool = Some(*pack_tool);
+        match run_random_events(alloc, faulty_run) {
+            Ok(None) => {}
+            failure => return failure,
         }
     }
     Ok(None)
 }
 
-// Returns the parameters of a run with this faulty packer or indexer and a quarter of the events.
-fn with_faulty_tool(random_run: RandomRun<'_>, pack_tool: PackTool, seed: usize) -> RandomRun<'_> {
-    let tools = Tools {
-        pack_tool: Some(pack_tool),
-        format: random_run.inputs.tools.format,
-    };
-    RandomRun {
-        inputs: WorldInputs {
-            server_text: random_run.inputs.server_text,
-            client_text: random_run.inputs.client_text,
-            scenario_text: random_run.inputs.scenario_text,
-            tools,
-        },
-        seed,
-        count: random_run.count / 4,
-        refuses_allocations: random_run.refuses_allocations,
-        requires_rounds: random_run.requires_rounds,
-    }
-}
-
 fn parse_random_run<'b>(text: &'b [u8], server: &'b [u8], format: Format) -> RandomRun<'b> {
-    let mut parts = text.splitn(2, |byte| *byte == b'/');
-    let numbers = parts.next().unwrap_or(b"");
-    let client = parts.next().unwrap_or(b"");
-    let mut words = numbers.split(|byte| *byte == b' ');
-    let seed = parse_number(words.next().unwrap_or(b""));
-    let count = parse_number(words.next().unwrap_or(b""));
+    let (numbers, client) = split_at_byte(text, b'/');
+    let (seed, words) = split_at_byte(numbers, b' ');
+    let (count, words) = split_at_byte(words, b' ');
+    let (word, _) = split_at_byte(words, b' ');
     RandomRun {
         inputs: WorldInputs {
             server_text: server,
@@ -143,11 +121,18 @@ fn parse_random_run<'b>(text: &'b [u8], server: &'b [u8], format: Format) -> Ran
                 format,
             },
         },
-        seed,
-        count,
+        seed: parse_number(seed),
+        count: parse_number(count),
         refuses_allocations: false,
-        requires_rounds: words.next().unwrap_or(b"") == ROUNDS,
+        requires_rounds: word == ROUNDS,
     }
+}
+
+// Returns the text before and after the first such byte. Without such a byte, returns the whole
+// text and an empty text.
+fn split_at_byte(text: &[u8], separator: u8) -> (&[u8], &[u8]) {
+    let mut parts = text.splitn(2, |byte| *byte == separator);
+    (parts.next().unwrap_or(b""), parts.next().unwrap_or(b""))
 }
 
 // Runs the events in sequence. Returns a description of the first failure, if any.
@@ -190,10 +175,10 @@ impl<A: Allocator + Copy> RandomEvents<'_, A> {
     ) -> Result<Option<String>, Trouble> {
         let mut scenario = String::new(self.alloc);
         let mut outcomes = Vec::new(self.alloc);
-        if self.keeps_connected_refs(event_generator, world, &mut scenario, &mut outcomes)? {
-            self.check_after_events(scenario.as_str(), outcomes.as_slice(), &*world)
-        } else {
-            Ok(Some(scenario))
+        match self.keeps_connected_refs(event_generator, world, &mut scenario, &mut outcomes) {
+            Ok(true) => self.check_after_events(scenario.as_str(), outcomes.as_slice(), &*world),
+            Ok(false) => Ok(Some(scenario)),
+            Err(trouble) => Err(trouble),
         }
     }
 
@@ -261,9 +246,9 @@ impl<A: Allocator + Copy> RandomEvents<'_, A> {
             return Ok(None);
         }
         let text = format_outcomes_and_refs(self.alloc, outcomes, world)?;
-        match self.difference_in_second_run(text.as_str(), scenario)? {
-            Some(difference) => Ok(Some(difference)),
-            None => self.describe_missing_kind(outcomes),
+        match self.difference_in_second_run(text.as_str(), scenario) {
+            Ok(None) => self.describe_missing_kind(outcomes),
+            difference => difference,
         }
     }
 

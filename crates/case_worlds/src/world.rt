@@ -249,21 +249,26 @@ fn add_ref_line(id: &str, name: &[u8], text: &mut String) -> Result<(), Trouble>
 
 // Appends the line of an outcome.
 fn add_outcome_line(outcome: Outcome, text: &mut String) -> Result<(), AllocError> {
-    match outcome {
-        Outcome::Done => text.push_str("done\n"),
-        Outcome::Asked { request } => write!(text, "asked {request}\n"),
-        Outcome::Served { reply } => write!(text, "served {reply}\n"),
-        Outcome::StrangerServed { written } => write!(text, "stranger {written}\n"),
-        Outcome::LsTaken { asks, wants } => write!(text, "ls asks={asks} wants={wants}\n"),
-        Outcome::Round { common } => write!(text, "round common={common}\n"),
-        Outcome::PackTaken { added } => write!(text, "pack added={added}\n"),
+    let (label, number) = match outcome {
+        Outcome::Done => return text.push_str("done\n"),
+        Outcome::LsTaken { asks, wants } => return add_ls_line(asks, wants, text),
         Outcome::Settled {
             moved,
             same,
             not_forward,
-        } => add_settled_line(moved, same, not_forward, text),
-        Outcome::Fault { code } => write!(text, "fault {code}\n"),
-    }
+        } => return add_settled_line(moved, same, not_forward, text),
+        Outcome::Asked { request } => ("asked ", request as u128),
+        Outcome::Served { reply } => ("served ", reply as u128),
+        Outcome::StrangerServed { written } => ("stranger ", written),
+        Outcome::Round { common } => ("round common=", common as u128),
+        Outcome::PackTaken { added } => ("pack added=", added as u128),
+        Outcome::Fault { code } => ("fault ", code as u128),
+    };
+    write!(text, "{label}{number}\n")
+}
+
+fn add_ls_line(asks: usize, wants: usize, text: &mut String) -> Result<(), AllocError> {
+    write!(text, "ls asks={asks} wants={wants}\n")
 }
 
 fn add_settled_line(
