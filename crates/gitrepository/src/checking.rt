@@ -41,15 +41,23 @@ pub fn check_repository<R: Files, F: ObjectFiles, A: Allocator + Copy>(
     directory: &GitDirectory<'_, R, A>,
     reader: &mut ObjectReader<'_, F, A>,
 ) -> Result<Checked, CheckFault<A>> {
-    let read = match directory.broken_ref() {
-        Ok(None) => directory.read_refs(),
-        Ok(Some((name, fault))) => return Err(CheckFault::Ref {
+    match directory.broken_ref() {
+        Ok(None) => check_listed(directory, reader),
+        Ok(Some((name, fault))) => Err(CheckFault::Ref {
             name,
             fault: RepositoryFault::from(fault),
         }),
-        Err(fault) => Err(fault),
-    };
-    match read {
+        Err(fault) => Err(CheckFault::Repository(RepositoryFault::from(fault))),
+    }
+}
+
+// Checks that the refs and HEAD of a Git directory without a malformed ref file reach no missing
+// object.
+fn check_listed<R: Files, F: ObjectFiles, A: Allocator + Copy>(
+    directory: &GitDirectory<'_, R, A>,
+    reader: &mut ObjectReader<'_, F, A>,
+) -> Result<Checked, CheckFault<A>> {
+    match directory.read_refs() {
         Ok((refs, head)) => check_refs(reader, &refs, &head),
         Err(fault) => Err(CheckFault::Repository(RepositoryFault::from(fault))),
     }

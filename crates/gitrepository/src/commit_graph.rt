@@ -5,11 +5,11 @@ ghost use Rattle.std.specs.List.{HoldsAt};
 ghost use Rattle.gitcommitgraph.specs.Chains.{graph_commits};
 ghost use Rattle.gitrepository.specs.Entries.{IsOfCommit, id_at};
 
-use crate::form::{path_of, turns_commit_graph_off};
+use crate::form::{path_of, read_file, turns_commit_graph_off};
 use ggraph::{Entry, Kind, MAX_PARENTS, Node, Parents};
 use gitcommitgraph::{CommitGraph, CommitGraphFault, Position, parse_chain};
-use gitobjects::{Cause, ObjectFiles, ObjectStore};
-use gname::{MAX_ID_TEXT, Oid};
+use gitobjects::{ObjectFiles, ObjectStore};
+use gname::Oid;
 use std::alloc::{AllocError, Allocator};
 
 // The maximum total size of the files of a commit-graph: 512 MiB.
@@ -79,10 +79,7 @@ fn graph_path<A: Allocator + Copy>(
     folder: &str,
     checksum: &Oid,
 ) -> Result<String<A>, AllocError> {
-    let mut digits = [0; MAX_ID_TEXT];
-    let count = checksum.to_hex(&mut digits);
-    let digits = str::from_utf8(&digits[..count]).unwrap_or("");
-    format!(in alloc; "{folder}/graph-{digits}.graph")
+    format!(in alloc; "{folder}/graph-{checksum}.graph")
 }
 
 // Adds a file to a commit-graph. Returns the size of the file, or `None` if the file cannot be
@@ -101,20 +98,6 @@ fn add_file<F: ObjectFiles, A: Allocator + Copy>(
     match commits.add(bytes) {
         Ok(()) => Ok(Some(length)),
         Err(CommitGraphFault::Memory) => Err(AllocError),
-        Err(_) => Ok(None),
-    }
-}
-
-// Returns the bytes of a file, or `None` if the file is missing, too large or unreadable.
-fn read_file<F: ObjectFiles, A: Allocator + Copy>(
-    files: &F,
-    alloc: A,
-    path: &str,
-    max_size: usize,
-) -> Result<Option<Vec<u8, A>>, AllocError> {
-    match files.read(alloc, path, max_size) {
-        Ok(bytes) => Ok(bytes),
-        Err(Cause::Memory) => Err(AllocError),
         Err(_) => Ok(None),
     }
 }

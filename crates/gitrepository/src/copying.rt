@@ -3,7 +3,7 @@
 
 use crate::fault::RepositoryFault;
 use crate::window::{Delta, Window};
-use gitobjects::{Found, ObjectFiles, ObjectReader, ObjectStore, RawEntry, StoreFault};
+use gitobjects::{Found, Object, ObjectFiles, ObjectReader, ObjectStore, RawEntry, StoreFault};
 use gitpack::EntryForm;
 use gitwalk::{Fate, Fates, PathHash};
 use gname::Oid;
@@ -160,13 +160,8 @@ impl<A: Allocator + Copy> Copying<A> {
         index: usize,
         position: usize,
     ) -> Result<Option<NextEntry<A>>, RepositoryFault<A>> {
-        let Some((id, found, fate)) = self.packed_at(index) else {
-            return Ok(None);
-        };
-        let Found::Packed { pack, place } = found else {
-            return Ok(None);
-        };
-        let Fate::Sent(path) = fate else {
+        let Some((id, Found::Packed { pack, place }, Fate::Sent(path))) = self.packed_at(index)
+        else {
             return Ok(None);
         };
         if let Some(entry) = intact_entry(reader, pack, place)? {
@@ -313,17 +308,24 @@ impl<A: Allocator + Copy> Copying<A> {
     ) -> Result<NextEntry<A>, RepositoryFault<A>> {
         let object = reader.read_checked(id)?;
         let delta = self.window.best_delta(&object)?;
-        let entry = match &delta {
-            Some(delta) => self.delta_entry(delta)?,
-            None => self.deflate_entry(EntryForm::Whole(object.kind), object.body.as_slice())?,
-        };
+        let entry = self.new_entry(&object, &delta)?;
         self.window.push(id, object, &delta)?;
         Ok(entry)
     }
 
-    fn delta_entry(&mut self, delta: &Delta<A>) -> Result<NextEntry<A>, RepositoryFault<A>> {
-        self.counts.made = self.counts.made.saturating_add(1);
-        self.deflate_entry(EntryForm::RefDelta(delta.base), delta.text.as_slice())
+    // Returns a new entry for an object: this delta, or the whole object if `delta` is `None`.
+    fn new_entry(
+        &mut self,
+        object: &Object<A>,
+        delta: &Option<Delta<A>>,
+    ) -> Result<NextEntry<A>, RepositoryFault<A>> {
+        match delta {
+            Some(delta) => {
+                self.counts.made = self.counts.made.saturating_add(1);
+                self.deflate_entry(EntryForm::RefDelta(delta.base), delta.text.as_slice())
+            }
+            None => self.deflate_entry(EntryForm::Whole(object.kind), object.body.as_slice()),
+        }
     }
 
     // Returns an entry whose stream inflates to these bytes.

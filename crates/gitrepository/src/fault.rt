@@ -6,7 +6,7 @@ use gitobjects::{Cause, FileFault, StoreFault};
 use gitpack::{PackFileFault, SpoolFault};
 use gitrefs::RefFault;
 use gitwalk::WalkFault;
-use gname::{MAX_ID_TEXT, OUT_OF_MEMORY_TEXT, Oid, RefName};
+use gname::{OUT_OF_MEMORY_TEXT, Oid, RefName};
 use std::alloc::{AllocError, AllocFailed, Allocator};
 use std::error::Error;
 use std::{fmt, io};
@@ -217,12 +217,13 @@ impl fmt::Display for FormFault {
 
 impl fmt::Display for ObjectCause {
     fn fmt<W: fmt::Write>(&self, f: &mut fmt::Formatter<W>) -> fmt::Result {
-        match self {
-            ObjectCause::Malformed => f.write_str("is malformed"),
-            ObjectCause::Type => f.write_str("has another type than the object that names it says"),
-            ObjectCause::Differs => f.write_str("has other bytes than the object with its id here"),
-            ObjectCause::Parents => write!(f, "has more than {MAX_PARENTS} parents"),
-        }
+        let text = match self {
+            ObjectCause::Malformed => "is malformed",
+            ObjectCause::Type => "has another type than the object that names it says",
+            ObjectCause::Differs => "has other bytes than the object with its id here",
+            ObjectCause::Parents => return write!(f, "has more than {MAX_PARENTS} parents"),
+        };
+        f.write_str(text)
     }
 }
 
@@ -231,9 +232,9 @@ impl<A: Allocator + Copy> fmt::Display for RepositoryFault<A> {
         match self {
             RepositoryFault::Memory => f.write_str(OUT_OF_MEMORY_TEXT),
             RepositoryFault::Store(fault) => write!(f, "{fault}"),
-            RepositoryFault::Named { by, fault } => write_named(by, fault, f),
+            RepositoryFault::Named { by, fault } => write!(f, "{fault} (object {by} names it)"),
             RepositoryFault::Refs(fault) => write!(f, "{fault}"),
-            RepositoryFault::Object { id, cause } => write_object(id, *cause, f),
+            RepositoryFault::Object { id, cause } => write!(f, "object {id} {cause}"),
             RepositoryFault::Objects => write!(
                 f,
                 "there are more than {MAX_NODES} commits and tags"
@@ -247,50 +248,25 @@ impl<A: Allocator + Copy> fmt::Display for RepositoryFault<A> {
     }
 }
 
-fn write_object<W: fmt::Write>(
-    id: &Oid,
-    cause: ObjectCause,
-    f: &mut fmt::Formatter<W>,
-) -> fmt::Result {
-    write_id(id, f)?;
-    write!(f, " {cause}")
-}
-
-// Writes the message for a named object that cannot be read.
-fn write_named<W: fmt::Write, A: Allocator + Copy>(
-    by: &Oid,
-    fault: &StoreFault<A>,
-    f: &mut fmt::Formatter<W>,
-) -> fmt::Result {
-    write!(f, "{fault} (")?;
-    write_id(by, f)?;
-    f.write_str(" names it)")
-}
-
-fn write_id<W: fmt::Write>(id: &Oid, f: &mut fmt::Formatter<W>) -> fmt::Result {
-    let mut digits = [0; MAX_ID_TEXT];
-    let count = id.to_hex(&mut digits);
-    f.write_str("object ")?;
-    f.write_str(str::from_utf8(&digits[..count]).unwrap_or(""))
-}
-
 // Writes the message for a pack fault.
 fn write_pack<W: fmt::Write>(fault: PackFileFault, f: &mut fmt::Formatter<W>) -> fmt::Result {
-    match fault {
-        PackFileFault::Memory => f.write_str(OUT_OF_MEMORY_TEXT),
-        PackFileFault::Frame => f.write_str("the header or the trailer of the pack is wrong"),
-        PackFileFault::Entry(at) => write!(
-            f,
-            "entry {at} of the pack, counted from 0, is malformed"
-        ),
-        PackFileFault::Thin => f.write_str("the base of a delta is not in the pack"),
-        PackFileFault::TooLarge => f.write_str(
-            "the pack is too large to index: it may have 1,048,576 objects, of which 485,000 are commits; they may have 64 GiB and name two million ids; an object may have 256 MiB, or 32 MiB among a million; an entry may have 128 MiB; a chain may have 8,191 deltas",
-        ),
-        PackFileFault::Spool(kind) => write!(f, "the temporary file of the pack: {kind}"),
-        PackFileFault::Format => f.write_str("the base of a delta has no SHA-1 id"),
-        PackFileFault::Refused => f.write_str("an object of the pack is refused"),
-    }
+    let text = match fault {
+        PackFileFault::Memory => OUT_OF_MEMORY_TEXT,
+        PackFileFault::Frame => "the header or the trailer of the pack is wrong",
+        PackFileFault::Entry(at) => {
+            return write!(f, "entry {at} of the pack, counted from 0, is malformed");
+        }
+        PackFileFault::Thin => "the base of a delta is not in the pack",
+        PackFileFault::TooLarge => {
+            "the pack is too large to index: it may have 1,048,576 objects, of which 485,000 are commits; they may have 64 GiB and name two million ids; an object may have 256 MiB, or 32 MiB among a million; an entry may have 128 MiB; a chain may have 8,191 deltas"
+        }
+        PackFileFault::Spool(kind) => {
+            return write!(f, "the temporary file of the pack: {kind}");
+        }
+        PackFileFault::Format => "the base of a delta has no SHA-1 id",
+        PackFileFault::Refused => "an object of the pack is refused",
+    };
+    f.write_str(text)
 }
 
 impl<A: Allocator + Copy> fmt::Debug for RepositoryFault<A> {

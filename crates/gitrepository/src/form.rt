@@ -60,6 +60,21 @@ pub(crate) fn path_of<A: Allocator + Copy>(
     Ok(path)
 }
 
+/// Returns the bytes of a file, or `None` if the file is missing, too large or unreadable. Fails
+/// only if out of memory.
+pub(crate) fn read_file<F: ObjectFiles, A: Allocator + Copy>(
+    files: &F,
+    alloc: A,
+    path: &str,
+    max_size: usize,
+) -> Result<Option<Vec<u8, A>>, AllocError> {
+    match files.read(alloc, path, max_size) {
+        Ok(bytes) => Ok(bytes),
+        Err(Cause::Memory) => Err(AllocError),
+        Err(_) => Ok(None),
+    }
+}
+
 // Checks that the configuration describes a supported format. Git treats a repository without a
 // configuration as version 0.
 fn check_config<F: ObjectFiles, A: Allocator + Copy>(
@@ -111,10 +126,8 @@ fn core_flag<F: ObjectFiles, A: Allocator + Copy>(
     name: &[u8],
 ) -> Result<Option<bool>, AllocError> {
     let path = path_of(alloc, git_dir, "config")?;
-    let text = match files.read(alloc, path.as_str(), MAX_CONFIG) {
-        Ok(Some(text)) => text,
-        Err(Cause::Memory) => return Err(AllocError),
-        Ok(None) | Err(_) => return Ok(None),
+    let Some(text) = read_file(files, alloc, path.as_str(), MAX_CONFIG)? else {
+        return Ok(None);
     };
     match parse_config(alloc, text.as_slice()) {
         Ok(settings) => Ok(last_flag(settings.as_slice(), name)),

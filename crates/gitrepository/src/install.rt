@@ -10,6 +10,7 @@ use crate::folder::PackFolder;
 use crate::kept::KeptPack;
 use crate::stored_folder::StoredFolder;
 use crate::stored_spool::StoredSpool;
+use gitpack::IndexedPack;
 use std::alloc::Allocator;
 use std::fs::Files;
 
@@ -98,9 +99,20 @@ pub fn install_pack<'r, R: Files, A: Allocator + Copy>(
     if index.entries().is_empty() {
         return Ok(KeptPack::none(files));
     }
+    install_nonempty(alloc, files, git_dir, pack, &index)
+}
+
+// Installs a pack that has objects.
+fn install_nonempty<'r, R: Files, A: Allocator + Copy>(
+    alloc: A,
+    files: &'r R,
+    git_dir: &str,
+    pack: StoredSpool<'r, R, A>,
+    index: &IndexedPack<A>,
+) -> Result<KeptPack<'r, R, A>, RepositoryFault<A>> {
     let text = index.write_index(alloc)?;
     let mut folder = StoredFolder::new(alloc, files, git_dir, &index.checksum())?;
-    let kept = KeptPack::make(alloc, files, folder.keep_path()?)?;
+    let kept = folder.keep_pack()?;
     install_files(&mut folder, pack, text.as_slice())?;
     Ok(kept)
 }

@@ -56,13 +56,21 @@ fn is_complete<F: ObjectFiles, A: Allocator + Copy>(
     let Err(fault) = judge(alloc, &mut source, &[*id], MAX_NAMED) else {
         return Ok(true);
     };
-    match fault_of_judge(fault) {
-        RepositoryFault::Store(StoreFault::Missing(_)) => Ok(false),
-        RepositoryFault::Named {
-            fault: StoreFault::Missing(_),
-            ..
-        } => Ok(false),
-        fault => Err(fault),
+    let fault = fault_of_judge(fault);
+    if is_missing(&fault) {
+        Ok(false)
+    } else {
+        Err(fault)
+    }
+}
+
+// Returns whether a fault is that of a missing object.
+fn is_missing<A: Allocator + Copy>(fault: &RepositoryFault<A>) -> bool {
+    match fault {
+        RepositoryFault::Store(fault) | RepositoryFault::Named { fault, .. } => {
+            matches!(fault, StoreFault::Missing(_))
+        }
+        _ => false,
     }
 }
 

@@ -41,7 +41,7 @@ const PARENT_LINE: usize = 48;
 const MAX_NON_BLOB: usize = 67_108_864;
 
 /// The id and the type of an object that was read from a pack.
-#[derive(Clone, Copy, Debug, Drop)]
+#[derive(Clone, Copy, Drop)]
 pub(crate) struct ReadObject {
     /// The id of the object.
     pub id: Oid,

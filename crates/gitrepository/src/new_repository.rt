@@ -75,13 +75,23 @@ impl<'r, R: Files, A: Allocator + Copy> NewRepository<'r, R, A> {
         head: &Head<A>,
     ) -> Result<(), RepositoryFault<A>> {
         let mut new = self;
-        // After a fault, the pack is dropped before the repository is removed.
-        let received = received;
-        new.check_refs(refs)?;
-        let _kept = new.install(received)?;
-        new.write_refs(graph, refs, head)?;
+        new.fill(received, graph, refs, head)?;
         new.origin = None;
         Ok(())
+    }
+
+    // Writes the pack, the refs and HEAD. After a fault, this function drops the pack, before the
+    // caller removes the repository.
+    fn fill(
+        &self,
+        received: Option<Received<StoredSpool<'r, R, A>, A>>,
+        graph: &Graph<A>,
+        refs: &Refs<A>,
+        head: &Head<A>,
+    ) -> Result<(), RepositoryFault<A>> {
+        self.check_refs(refs)?;
+        let _kept = self.install(received)?;
+        self.write_refs(graph, refs, head)
     }
 
     // Checks that no ref name conflicts with another ref name. Writes no file.

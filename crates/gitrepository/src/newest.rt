@@ -130,15 +130,22 @@ fn newest_tips<A: Allocator + Copy>(
     refs: &Refs<A>,
 ) -> Result<Vec<Tip, A>, AllocError> {
     let alloc = graph.allocator();
-    let heights = heights_of(graph)?;
     let ids = refs.ids(alloc)?;
-    let mut tips = Vec::new(alloc);
-    for id in &distinct_ids(alloc, ids.as_slice())? {
+    let ids = distinct_ids(alloc, ids.as_slice())?;
+    let mut tips = tips_of(graph, ids.as_slice())?;
+    tips.sort_unstable_by_key(|tip| usize::MAX - tip.height);
+    tips.truncate(MAX_NEWEST);
+    Ok(tips)
+}
+
+// Returns the objects with these ids.
+fn tips_of<A: Allocator + Copy>(graph: &Graph<A>, ids: &[Oid]) -> Result<Vec<Tip, A>, AllocError> {
+    let heights = heights_of(graph)?;
+    let mut tips = Vec::new(graph.allocator());
+    for id in ids {
         let height = height_of(graph, heights.as_slice(), id);
         tips.push(Tip { id: *id, height })?;
     }
-    tips.sort_unstable_by_key(|tip| usize::MAX - tip.height);
-    tips.truncate(MAX_NEWEST);
     Ok(tips)
 }
 

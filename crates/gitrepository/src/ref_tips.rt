@@ -55,8 +55,7 @@ pub fn open_tips<F: ObjectFiles, A: Allocator + Copy>(
     Ok(Some(Repository { graph, refs, head }))
 }
 
-// Returns the graph of the objects that refs and HEAD point to. Opens the objects of the Git
-// directory only if an object must be looked up.
+// Returns the graph of the objects that refs and HEAD point to.
 fn graph_of_tips<F: ObjectFiles, A: Allocator + Copy>(
     files: &F,
     alloc: A,
@@ -68,11 +67,8 @@ fn graph_of_tips<F: ObjectFiles, A: Allocator + Copy>(
     let mut graph = Graph::new(alloc);
     graph.make_room(listed.refs.len());
     let ids = unpeeled_ids(alloc, listed)?;
-    if !ids.is_empty() {
-        let mut reader = QuickReader::open(files, alloc, git_dir)?;
-        if !add_unpeeled(&mut graph, &mut reader, ids.as_slice())? {
-            return Ok(None);
-        }
+    if !add_unpeeled(&mut graph, files, git_dir, ids.as_slice())? {
+        return Ok(None);
     }
     if !add_refs(&mut graph, listed.refs.as_slice(), listed.peels.as_slice())? {
         return Ok(None);
@@ -98,15 +94,21 @@ fn unpeeled_ids<A: Allocator + Copy>(
     Ok(ids)
 }
 
-// Looks up the objects with these ids, and adds them and their peeled objects. Returns `false` if
-// an object is missing or malformed, or cannot be added.
+// Looks up the objects with these ids, and adds them and their peeled objects. Opens the objects of
+// the Git directory only if there are ids. Returns `false` if an object is missing or malformed, or
+// cannot be added.
 fn add_unpeeled<F: ObjectFiles, A: Allocator + Copy>(
     graph: &mut Graph<A>,
-    reader: &mut QuickReader<'_, F, A>,
+    files: &F,
+    git_dir: &str,
     ids: &[Oid],
 ) -> Result<bool, RepositoryFault<A>> {
+    if ids.is_empty() {
+        return Ok(true);
+    }
+    let mut reader = QuickReader::open(files, graph.allocator(), git_dir)?;
     for id in ids {
-        if !add_read(graph, reader, id)? {
+        if !add_read(graph, &mut reader, id)? {
             return Ok(false);
         }
     }
@@ -211,10 +213,25 @@ fn add_read<F: ObjectFiles, A: Allocator + Copy>(
     id: &Oid,
 ) -> Result<bool, RepositoryFault<A>> {
     let mut tags = Vec::new(reader.allocator());
+    if follow_tags(graph, reader, id, &mut tags)? {
+        add_tags(graph, tags)
+    } else {
+        Ok(false)
+    }
+}
+
+// Appends the tags that an object leads to, and adds the peeled object. Returns `false` if an
+// object is missing or malformed, or if the peeled object cannot be added.
+fn follow_tags<F: ObjectFiles, A: Allocator + Copy>(
+    graph: &mut Graph<A>,
+    reader: &mut QuickReader<'_, F, A>,
+    id: &Oid,
+    tags: &mut Vec<Tag, A>,
+) -> Result<bool, RepositoryFault<A>> {
     let mut next = *id;
     for _tag in 0..MAX_TAGS {
         if graph.contains(&next) {
-            return add_tags(graph, tags);
+            return Ok(true);
         }
         match reader.kind_of(&next)? {
             Some(ObjectType::Tag) => {
@@ -224,7 +241,7 @@ fn add_read<F: ObjectFiles, A: Allocator + Copy>(
                 tags.push(Tag { id: next, target })?;
                 next = target;
             }
-            Some(_) => return Ok(add_leaf(graph, &next)? && add_tags(graph, tags)?),
+            Some(_) => return add_leaf(graph, &next),
             None => return Ok(false),
         }
     }

@@ -5,9 +5,10 @@ ghost use Rattle.gitrepository.specs.declared.folder.PackFileStage.TheVariants.{
 
 use crate::fault::RepositoryFault;
 use crate::folder::{PackFileStage, PackFolder};
+use crate::kept::KeptPack;
 use crate::stored_spool::StoredSpool;
 use crate::temporary::{Temporary, make_folder, sync_folder};
-use gname::{MAX_ID_TEXT, Oid};
+use gname::Oid;
 use std::alloc::{AllocError, Allocator};
 use std::fs::Files;
 use std::marker::Model;
@@ -49,7 +50,7 @@ impl<'r, R: Files, A: Allocator + Copy> StoredFolder<'r, R, A> {
         ensures { IfOk result (λ folder. folder ≡ Start) }
     {
         let path = make_folder(alloc, files, git_dir)?;
-        let stem = digits_of(alloc, checksum)?;
+        let stem = checksum.to_string(alloc)?;
         let pack_path = file_path(alloc, path.as_str(), stem.as_str(), ".pack")?;
         let index_path = file_path(alloc, path.as_str(), stem.as_str(), ".idx")?;
         let (pack, index, stage) = (None, None, PackFileStage::Start);
@@ -66,12 +67,10 @@ impl<'r, R: Files, A: Allocator + Copy> StoredFolder<'r, R, A> {
         })
     }
 
-    /// Returns the path of the `.keep` file of the pack.
-    pub(crate) fn keep_path(&self) -> Result<String<A>, AllocError> {
-        let path = self.pack_path.as_str();
-        let mut kept = String::from_str(self.alloc, path.strip_suffix(".pack").unwrap_or(path))?;
-        kept.push_str(".keep")?;
-        Ok(kept)
+    /// Creates the `.keep` file of the pack, unless the file exists.
+    pub(crate) fn keep_pack(&self) -> Result<KeptPack<'r, R, A>, RepositoryFault<A>> {
+        let path = file_path(self.alloc, self.path.as_str(), self.stem.as_str(), ".keep")?;
+        KeptPack::make(self.alloc, self.files, path)
     }
 
     // Writes the index to a new temporary file. On failure the file is removed.
@@ -122,18 +121,7 @@ fn file_path<A: Allocator + Copy>(
     stem: &str,
     extension: &str,
 ) -> Result<String<A>, AllocError> {
-    let mut path = String::from_str(alloc, folder)?;
-    path.push_str("/pack-")?;
-    path.push_str(stem)?;
-    path.push_str(extension)?;
-    Ok(path)
-}
-
-// Returns the hexadecimal digits of an id.
-fn digits_of<A: Allocator + Copy>(alloc: A, id: &Oid) -> Result<String<A>, AllocError> {
-    let mut digits = [0; MAX_ID_TEXT];
-    let count = id.to_hex(&mut digits);
-    String::from_str(alloc, str::from_utf8(&digits[..count]).unwrap_or(""))
+    format!(in alloc; "{folder}/pack-{stem}{extension}")
 }
 
 impl<'r, R: Files, A: Allocator + Copy> PackFolder for StoredFolder<'r, R, A> {

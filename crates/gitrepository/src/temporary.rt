@@ -1,6 +1,7 @@
 //! Temporary files in a folder of packs.
 
 use crate::fault::RepositoryFault;
+use crate::form::path_of;
 use std::alloc::Allocator;
 use std::cell::RefCell;
 use std::fs::{File, Files, OpenFile, OpenOptions};
@@ -143,10 +144,8 @@ pub(crate) fn make_folder<R: Files, A: Allocator + Copy>(
     files: &R,
     git_dir: &str,
 ) -> Result<String<A>, RepositoryFault<A>> {
-    let mut path = String::from_str(alloc, git_dir)?;
-    path.push_str("/objects")?;
-    let objects = String::from_str(alloc, path.as_str())?;
-    path.push_str("/pack")?;
+    let objects = path_of(alloc, git_dir, "objects")?;
+    let path = path_of(alloc, objects.as_str(), "pack")?;
     match fs::create_dir(files, path.as_str()) {
         Ok(()) => match sync_folder(files, objects.as_str()) {
             Ok(()) => Ok(path),

@@ -74,25 +74,10 @@ impl<A: Allocator + Copy> Window<A> {
         &mut self,
         object: &Object<A>,
     ) -> Result<Option<Delta<A>>, AllocError> {
-        let target = object.body.as_slice();
-        if !has_suitable_size(target.len()) {
+        if !has_suitable_size(object.body.len()) {
             return Ok(None);
         }
-        let mut best: Option<(usize, Delta<A>)> = None;
-        for from_end in 0..self.bases.len() {
-            let place = self.bases.len().wrapping_sub(from_end).wrapping_sub(1);
-            let Some(base) = self.bases.get(place) else {
-                break;
-            };
-            let limit = base.limit(object, &best);
-            if limit == 0 {
-                continue;
-            }
-            if let Some(text) = base.body.make_delta(target, limit)? {
-                best = Some((place, base.delta(text)));
-            }
-        }
-        match best {
+        match self.find_best(object)? {
             Some((place, delta)) => {
                 self.move_to_end(place)?;
                 Ok(Some(delta))
@@ -125,6 +110,39 @@ impl<A: Allocator + Copy> Window<A> {
         self.bases.push(base)?;
         self.bytes = self.bytes.saturating_add(size);
         Ok(())
+    }
+
+    // Returns the best delta for an object, and the position of its base. Tries the most recently
+    // used base first.
+    fn find_best(&self, object: &Object<A>) -> Result<Option<(usize, Delta<A>)>, AllocError> {
+        let mut best: Option<(usize, Delta<A>)> = None;
+        for from_end in 0..self.bases.len() {
+            let place = self.bases.len().wrapping_sub(from_end).wrapping_sub(1);
+            if let Some(delta) = self.better_delta(place, object, &best)? {
+                best = Some((place, delta));
+            }
+        }
+        Ok(best)
+    }
+
+    // Returns a delta against the base at this position, or `None` if it is not better than `best`.
+    fn better_delta(
+        &self,
+        place: usize,
+        object: &Object<A>,
+        best: &Option<(usize, Delta<A>)>,
+    ) -> Result<Option<Delta<A>>, AllocError> {
+        let Some(base) = self.bases.get(place) else {
+            return Ok(None);
+        };
+        let limit = base.limit(object, best);
+        if limit == 0 {
+            return Ok(None);
+        }
+        match base.body.make_delta(object.body.as_slice(), limit)? {
+            Some(text) => Ok(Some(base.delta(text))),
+            None => Ok(None),
+        }
     }
 
     // Removes the least recently used objects until an object of this size fits into the window.
