@@ -48,6 +48,9 @@
 //!   anything that some server could send, without a read or a write.
 //! - No contract of [`fetch_between`] states that the indexer keeps the objects that the graph
 //!   gains.
+//! - No contract states that the far end runs only when the near end has read all of its bytes.
+//! - No contract states that a [`MessageSink`] fails only for a cause. A write could report out of
+//!   memory although memory is available, and a flush could always fail.
 //! - The contracts allow a [`MessageSink`] that never flushes the inner sink. A failed flush could
 //!   write some of the held bytes.
 //!
