@@ -41,7 +41,7 @@
 //! - No contract states the result of [`CountsBytes::byte_count`]. An end could read although it
 //!   has read all bytes of the other end.
 //! - No contract states what the server of a fetch does. A [`LocalServer`] could find or open no
-//!   repository, and could send any text.
+//!   repository, could report out of memory for each repository, and could send any text.
 //! - Any failed fetch could be reported as a message that is too long, or as out of memory. A
 //!   message that is too long could be reported as any other failure.
 //! - A fetch could report out of memory although memory is available. It could fail, or bring
@@ -52,7 +52,7 @@
 //! - No contract states that a [`MessageSink`] fails only for a cause. A write could report out of
 //!   memory although memory is available, and a flush could always fail.
 //! - The contracts allow a [`MessageSink`] that never flushes the inner sink. A failed flush could
-//!   write some of the held bytes.
+//!   write some of the held bytes. No contract states when a [`MessageSink`] allocates memory.
 //!
 //! # Dependencies
 //!
