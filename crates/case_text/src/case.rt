@@ -114,18 +114,27 @@ impl<'a> Case<'a> {
             "run" => self.commands.push(value)?,
             "words" => self.launch = Some(Launch::new(alloc, value)),
             "file" => self.new_file = Some(value),
-            "packer" => self.pack_tool = Some(PackTool::packer_named(value).ok_or(
-                Trouble::UnknownPackTool,
-            )?),
-            "indexer" => self.pack_tool = Some(PackTool::indexer_named(value).ok_or(
-                Trouble::UnknownPackTool,
-            )?),
             "long" => self.is_long = true,
             "deep" => self.is_deep = true,
             "late" => self.is_late = true,
             "plain" => self.forbids_response_ends = true,
-            _ => return self.read_launch_line(keyword, value),
+            _ => return self.read_tool_line(keyword, value),
         }
+        Ok(true)
+    }
+
+    // Reads a line about a packer or an indexer, or about a launch. Returns `false` for any other
+    // line.
+    fn read_tool_line(&mut self, keyword: &str, value: &'a str) -> Result<bool, Trouble> {
+        let pack_tool = match keyword {
+            "packer" => PackTool::packer_named(value),
+            "indexer" => PackTool::indexer_named(value),
+            _ => return self.read_launch_line(keyword, value),
+        };
+        if pack_tool.is_none() {
+            return Err(Trouble::UnknownPackTool);
+        }
+        self.pack_tool = pack_tool;
         Ok(true)
     }
 

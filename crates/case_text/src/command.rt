@@ -2,9 +2,21 @@
 
 use crate::pack_tools::PackTool;
 use crate::trouble::Trouble;
+use crate::words::value_of_word;
 use ggrammar::Ends;
 use gname::{Format, MAX_PACK};
 use std::alloc::Allocator;
+
+// The programs with their names in test files. `ls` with a host is a client.
+const PROGRAMS: &[(&str, Program)] = &[
+    ("serve", Program::Serve),
+    ("ls", Program::LsStdioServer),
+    ("upload", Program::Upload),
+    ("fetch", Program::Fetch),
+    ("check", Program::Check),
+    ("lines", Program::Lines),
+    ("simulate", Program::Simulate),
+];
 
 /// A program that a case runs.
 #[derive(Clone, Copy, PartialEq, Eq)]
@@ -156,16 +168,10 @@ pub fn parse_command(line: &str, format: Format) -> Result<Invocation<'_>, Troub
 }
 
 fn program_named(name: &str, has_host: bool) -> Result<Program, Trouble> {
-    match name {
-        "ls" if has_host => Ok(Program::LsClient),
-        "serve" => Ok(Program::Serve),
-        "ls" => Ok(Program::LsStdioServer),
-        "upload" => Ok(Program::Upload),
-        "fetch" => Ok(Program::Fetch),
-        "check" => Ok(Program::Check),
-        "lines" => Ok(Program::Lines),
-        "simulate" => Ok(Program::Simulate),
-        _ => Err(Trouble::UnknownProgram),
+    match value_of_word(PROGRAMS, name) {
+        Some(Program::LsStdioServer) if has_host => Ok(Program::LsClient),
+        Some(program) => Ok(program),
+        None => Err(Trouble::UnknownProgram),
     }
 }
 

@@ -17,15 +17,15 @@ pub fn has_replies_without_response_end(case: &Case<'_>, has_hello: bool) -> boo
     let mut has_reply = false;
     for entry in case.transcript.as_slice() {
         let packet = entry.bytes.as_slice();
-        if entry.speaker == Speaker::Server && packet == RESPONSE_END {
-            return false;
+        match entry.speaker {
+            Speaker::Client => {
+                has_request = !awaits_hello;
+                awaits_hello = false;
+            }
+            Speaker::Server if packet == RESPONSE_END => return false,
+            Speaker::Server => has_reply = has_reply || (has_request && packet == FLUSH),
+            Speaker::Output | Speaker::Errors | Speaker::Report => {}
         }
-        if entry.speaker == Speaker::Client {
-            has_request = !awaits_hello;
-            awaits_hello = false;
-        }
-        has_reply = has_reply
-            || (has_request && entry.speaker == Speaker::Server && packet == FLUSH);
     }
     has_reply
 }
@@ -156,17 +156,15 @@ impl Conversation {
     // Appends an entry of the transcript. If `adds_response_ends` is set, also appends a
     // response-end packet after the flush packet of a reply.
     fn add_entry(&mut self, speaker: Speaker, bytes: &[u8]) -> Result<(), Trouble> {
-        if speaker == Speaker::Client && self.awaits_hello {
+        let is_client = speaker == Speaker::Client;
+        if is_client && self.awaits_hello {
             return self.add_hello(bytes);
         }
-        self.has_request = self.has_request || speaker == Speaker::Client;
+        self.has_request = self.has_request || is_client;
         self.add_to_stream(speaker, bytes)?;
-        if self.adds_response_ends
-            && self.has_request
-            && speaker == Speaker::Server
-            && bytes == FLUSH
-        {
-            self.add_to_stream(speaker, RESPONSE_END)?;
+        let is_reply = self.has_request && speaker == Speaker::Server;
+        if self.adds_response_ends && is_reply && bytes == FLUSH {
+            return self.add_to_stream(speaker, RESPONSE_END);
         }
         Ok(())
     }
@@ -184,22 +182,25 @@ impl Conversation {
     }
 
     fn add_to_stream(&mut self, speaker: Speaker, bytes: &[u8]) -> Result<(), Trouble> {
-        match speaker {
-            Speaker::Client if self.program.reads_client_messages() => self.add_input(bytes)?,
-            Speaker::Server if !self.program.reads_client_messages() => self.add_input(bytes)?,
-            Speaker::Client | Speaker::Server => self.add_output(speaker, bytes)?,
-            Speaker::Output => self.output.extend_from_slice(bytes)?,
-            Speaker::Errors => self.errors.extend_from_slice(bytes)?,
-            Speaker::Report => self.report.extend_from_slice(bytes)?,
-        }
-        Ok(())
+        let stream = match speaker {
+            Speaker::Client if self.program.reads_client_messages() => return self.add_input(bytes),
+            Speaker::Server if !self.program.reads_client_messages() => {
+                return self.add_input(bytes);
+            }
+            Speaker::Client | Speaker::Server => return self.add_output(speaker, bytes),
+            Speaker::Output => &mut self.output,
+            Speaker::Errors => &mut self.errors,
+            Speaker::Report => &mut self.report,
+        };
+        Ok(stream.extend_from_slice(bytes)?)
     }
 
     fn add_input(&mut self, bytes: &[u8]) -> Result<(), Trouble> {
         let reads_single_packets = self.program.reads_single_packets();
-        self.begin_packet(bytes == RESPONSE_END && !reads_single_packets)?;
+        let is_response_end = bytes == RESPONSE_END;
+        self.begin_packet(is_response_end && !reads_single_packets)?;
         self.input.extend_from_slice(bytes)?;
-        self.frame = if reads_single_packets || bytes == FLUSH || bytes == RESPONSE_END {
+        self.frame = if reads_single_packets || is_response_end || bytes == FLUSH {
             0
         } else {
             self.frame.saturating_add(1)

@@ -16,7 +16,8 @@ use std::alloc::Global;
 
 /// The values on which the escapes in a line depend.
 #[derive(Clone, Copy)]
-pub(crate) struct EscapeContext {
+pub(crate) struct EscapeContext<'b, 'a> {
+    pub(crate) texts: &'b [NamedText<'a>],
     pub(crate) format: Format,
     /// The number of the current repetition of the line, counted from 1.
     pub(crate) repetition: usize,
@@ -41,14 +42,13 @@ pub(crate) fn find_text<'b>(texts: &'b [NamedText<'_>], name: &[u8]) -> Option<&
 /// Returns the bytes of a line after all escapes are replaced.
 pub(crate) fn expand_escapes(
     alloc: Global,
-    texts: &[NamedText<'_>],
-    line: &[u8],
-    escape_context: EscapeContext,
+    line: &str,
+    escape_context: EscapeContext<'_, '_>,
 ) -> Result<Vec<u8>, Trouble> {
     let mut bytes = Vec::new(alloc);
-    let mut rest = line;
+    let mut rest = line.as_bytes();
     for _ in 0..line.len() {
-        rest = add_next(alloc, texts, rest, escape_context, &mut bytes)?;
+        rest = add_next(alloc, rest, escape_context, &mut bytes)?;
         if rest.is_empty() {
             break;
         }
@@ -60,33 +60,19 @@ pub(crate) fn expand_escapes(
 // remaining text.
 fn add_next<'a>(
     alloc: Global,
-    texts: &[NamedText<'_>],
     rest: &'a [u8],
-    escape_context: EscapeContext,
+    escape_context: EscapeContext<'_, '_>,
     bytes: &mut Vec<u8>,
 ) -> Result<&'a [u8], Trouble> {
-    match rest {
-        [b'\\', b'x', high, low, remaining @ ..] => {
-            bytes.push(hex_byte(*high, *low))?;
-            Ok(remaining)
-        }
-        [b'\\', letter, remaining @ ..] => {
-            bytes.push(escaped_byte(*letter))?;
-            Ok(remaining)
-        }
-        [b'{', remaining @ ..] => {
-            let Some((inside, remaining)) = split_at_byte(remaining, b'}') else {
-                return Err(Trouble::OpenBrace);
-            };
-            add_braced(alloc, texts, inside, escape_context, bytes)?;
-            Ok(remaining)
-        }
-        [plain, remaining @ ..] => {
-            bytes.push(*plain)?;
-            Ok(remaining)
-        }
-        [] => Ok(rest),
-    }
+    let (byte, remaining) = match rest {
+        [b'{', opened @ ..] => return add_braced(alloc, opened, escape_context, bytes),
+        [b'\\', b'x', high, low, remaining @ ..] => (hex_byte(*high, *low), remaining),
+        [b'\\', letter, remaining @ ..] => (escaped_byte(*letter), remaining),
+        [plain, remaining @ ..] => (*plain, remaining),
+        [] => return Ok(rest),
+    };
+    bytes.push(byte)?;
+    Ok(remaining)
 }
 
 fn escaped_byte(letter: u8) -> u8 {
@@ -97,7 +83,8 @@ fn escaped_byte(letter: u8) -> u8 {
     }
 }
 
-fn hex_byte(high: u8, low: u8) -> u8 {
+/// Returns the byte with these two hexadecimal digits in lower case.
+pub(crate) fn hex_byte(high: u8, low: u8) -> u8 {
     hex_value(high)
         .wrapping_mul(16)
         .wrapping_add(hex_value(low))
@@ -112,12 +99,28 @@ pub(crate) fn hex_value(letter: u8) -> u8 {
     }
 }
 
-// Appends the bytes for an escape in braces. `inside` is the text between the braces.
-fn add_braced(
+// Appends the bytes for an escape in braces. `opened` is the text after the open brace. Returns the
+// text after the closing brace.
+fn add_braced<'a>(
     alloc: Global,
-    texts: &[NamedText<'_>],
+    opened: &'a [u8],
+    escape_context: EscapeContext<'_, '_>,
+    bytes: &mut Vec<u8>,
+) -> Result<&'a [u8], Trouble> {
+    match split_at_byte(opened, b'}') {
+        Some((inside, remaining)) => {
+            add_escape(alloc, inside, escape_context, bytes)?;
+            Ok(remaining)
+        }
+        None => Err(Trouble::OpenBrace),
+    }
+}
+
+// Appends the bytes for an escape in braces. `inside` is the text between the braces.
+fn add_escape(
+    alloc: Global,
     inside: &[u8],
-    escape_context: EscapeContext,
+    escape_context: EscapeContext<'_, '_>,
     bytes: &mut Vec<u8>,
 ) -> Result<(), Trouble> {
     if let Some(number) = inside.strip_prefix(b"#") {
@@ -129,29 +132,25 @@ fn add_braced(
     }
     match split_at_byte(inside, b'*') {
         Some((part, count)) => add_repeated(part, parse_number(count), bytes),
-        None => add_id_or_text(texts, inside, escape_context, bytes),
+        None => add_id_or_text(inside, escape_context, bytes),
     }
 }
 
 // Appends an id of one repeated digit, an id that is too long or too short by the number after `+`
 // or `-`, or the text with the name `inside`.
 fn add_id_or_text(
-    texts: &[NamedText<'_>],
     inside: &[u8],
-    escape_context: EscapeContext,
+    escape_context: EscapeContext<'_, '_>,
     bytes: &mut Vec<u8>,
 ) -> Result<(), Trouble> {
     let length = escape_context.format.id_text_length();
-    match inside {
-        [digit] => add_repeated(&[*digit], length, bytes),
-        [digit, b'+', more @ ..] => {
-            add_repeated(&[*digit], length.saturating_add(parse_number(more)), bytes)
-        }
-        [digit, b'-', less @ ..] => {
-            add_repeated(&[*digit], length.saturating_sub(parse_number(less)), bytes)
-        }
-        _ => add_text(texts, inside, bytes),
-    }
+    let (digit, length) = match inside {
+        [digit] => (*digit, length),
+        [digit, b'+', more @ ..] => (*digit, length.saturating_add(parse_number(more))),
+        [digit, b'-', less @ ..] => (*digit, length.saturating_sub(parse_number(less))),
+        _ => return add_text(escape_context.texts, inside, bytes),
+    };
+    add_repeated(&[digit], length, bytes)
 }
 
 // Returns the number of `object-format` lines in a request with ids of this format.
@@ -174,21 +173,15 @@ fn add_text(texts: &[NamedText<'_>], name: &[u8], bytes: &mut Vec<u8>) -> Result
 fn add_number_escape(
     alloc: Global,
     inside: &[u8],
-    escape_context: EscapeContext,
+    escape_context: EscapeContext<'_, '_>,
     bytes: &mut Vec<u8>,
 ) -> Result<(), Trouble> {
     let length = escape_context.format.id_text_length();
     if let Some(number) = inside.strip_prefix(b"=") {
         return add_padded_number(alloc, length, parse_number(number), bytes);
     }
-    let (width, offset) = match split_at_byte(inside, b'+') {
-        Some((width, offset)) => (width, parse_number(offset)),
-        None => (inside, 0),
-    };
-    let (width, factor) = match split_at_byte(width, b'*') {
-        Some((width, factor)) => (width, parse_number(factor)),
-        None => (width, 1),
-    };
+    let (width, offset) = split_number(inside, b'+', 0);
+    let (width, factor) = split_number(width, b'*', 1);
     let width = if width.is_empty() {
         length
     } else {
@@ -199,6 +192,15 @@ fn add_number_escape(
         .saturating_mul(factor)
         .saturating_add(offset);
     add_padded_number(alloc, width, number, bytes)
+}
+
+// Returns the text before `byte` and the number after it. If the text lacks `byte`, returns the
+// whole text and the number `default`.
+fn split_number(text: &[u8], byte: u8, default: usize) -> (&[u8], usize) {
+    match split_at_byte(text, byte) {
+        Some((before, number)) => (before, parse_number(number)),
+        None => (text, default),
+    }
 }
 
 /// Appends a number in decimal, padded with zeros to `width` digits.
@@ -217,9 +219,10 @@ pub fn add_padded_number(
 // Splits the text at the first occurrence of `byte`. Returns `None` if the text lacks `byte`.
 fn split_at_byte(text: &[u8], byte: u8) -> Option<(&[u8], &[u8])> {
     let mut parts = text.splitn(2, |other| *other == byte);
-    let before = parts.next()?;
-    let after = parts.next()?;
-    Some((before, after))
+    match (parts.next(), parts.next()) {
+        (Some(before), Some(after)) => Some((before, after)),
+        _ => None,
+    }
 }
 
 fn add_repeated(part: &[u8], times: usize, bytes: &mut Vec<u8>) -> Result<(), Trouble> {

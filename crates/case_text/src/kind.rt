@@ -1,5 +1,7 @@
 //! The kinds of facts in a test file.
 
+use crate::words::value_of_word;
+
 /// The kind of a fact, which determines the functions that the fact tests.
 #[derive(Clone, Copy, PartialEq, Eq)]
 pub enum FactKind {
@@ -19,27 +21,45 @@ pub enum FactKind {
     RandomSimulation,
 }
 
+// The keywords of facts, with the kind of each fact.
+const KEYWORDS: &[(&str, FactKind)] = &[
+    ("name", FactKind::ParsedText),
+    ("prefix", FactKind::ParsedText),
+    ("id", FactKind::ParsedText),
+    ("id64", FactKind::ParsedText),
+    ("spec", FactKind::ParsedText),
+    ("hello", FactKind::ParsedText),
+    ("put", FactKind::ParsedText),
+    ("band", FactKind::ParsedText),
+    ("load", FactKind::ParsedText),
+    ("load-parents-first", FactKind::ParsedText),
+    ("pack", FactKind::ParsedText),
+    ("scenario", FactKind::ParsedText),
+    ("name-text", FactKind::ParsedText),
+    ("missing", FactKind::HistorySearch),
+    ("counted", FactKind::HistorySearch),
+    ("sent", FactKind::HistorySearch),
+    ("sent-tags", FactKind::HistorySearch),
+    ("sent-count", FactKind::HistorySearch),
+    ("common", FactKind::HistorySearch),
+    ("ready", FactKind::HistorySearch),
+    ("reaches", FactKind::HistorySearch),
+    ("offered", FactKind::HistorySearch),
+    ("peeled", FactKind::HistorySearch),
+    ("known", FactKind::ClientObjects),
+    ("unheld", FactKind::ClientObjects),
+    ("counted-past", FactKind::ClientObjects),
+    ("shown", FactKind::PrintedFault),
+    ("grown", FactKind::SizeLimits),
+    ("packed", FactKind::SizeLimits),
+    ("asked", FactKind::CommandLine),
+    ("random", FactKind::RandomSimulation),
+];
+
 impl FactKind {
     /// Returns the kind of a fact whose line begins with this keyword, or `None` for any other
     /// line.
     pub(crate) fn from_keyword(keyword: &str) -> Option<FactKind> {
-        match keyword {
-            "name" | "prefix" | "id" | "id64" | "spec" | "hello" | "put" | "band" => Some(
-                FactKind::ParsedText,
-            ),
-            "load" | "load-parents-first" | "pack" | "scenario" | "name-text" => Some(
-                FactKind::ParsedText,
-            ),
-            "missing" | "counted" | "sent" | "sent-tags" | "sent-count" => Some(
-                FactKind::HistorySearch,
-            ),
-            "common" | "ready" | "reaches" | "offered" | "peeled" => Some(FactKind::HistorySearch),
-            "known" | "unheld" | "counted-past" => Some(FactKind::ClientObjects),
-            "shown" => Some(FactKind::PrintedFault),
-            "grown" | "packed" => Some(FactKind::SizeLimits),
-            "asked" => Some(FactKind::CommandLine),
-            "random" => Some(FactKind::RandomSimulation),
-            _ => None,
-        }
+        value_of_word(KEYWORDS, keyword)
     }
 }

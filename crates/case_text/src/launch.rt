@@ -88,21 +88,20 @@ impl<'a> Launch<'a> {
     // launch. Returns `false` for any other line.
     fn read_initial_item(&mut self, keyword: &str, value: &'a str) -> Result<bool, Trouble> {
         let (name, value) = split_first_word(value);
-        match keyword {
-            "found" => self
-                .initial_items
-                .push(InitialItem::File { name, text: value })?,
-            "found-folder" => self.initial_items.push(InitialItem::Folder { name })?,
-            "found-link" => self.initial_items.push(InitialItem::Link {
+        let item = match keyword {
+            "found" => InitialItem::File { name, text: value },
+            "found-folder" => InitialItem::Folder { name },
+            "found-link" => InitialItem::Link {
                 name,
                 target: value,
-            })?,
-            "found-mode" => self.initial_items.push(InitialItem::Mode {
+            },
+            "found-mode" => InitialItem::Mode {
                 name,
                 mode: parse_mode(value)?,
-            })?,
+            },
             _ => return self.read_final_item(keyword, name, value),
-        }
+        };
+        self.initial_items.push(item)?;
         Ok(true)
     }
 
@@ -113,19 +112,18 @@ impl<'a> Launch<'a> {
         name: &'a str,
         value: &'a str,
     ) -> Result<bool, Trouble> {
-        match keyword {
-            "left" => self
-                .final_items
-                .push(FinalItem::File { name, text: value })?,
-            "left-nothing" => self.final_items.push(FinalItem::Absent { name })?,
-            "left-mode" => self.final_items.push(FinalItem::Mode {
+        let item = match keyword {
+            "left" => FinalItem::File { name, text: value },
+            "left-nothing" => FinalItem::Absent { name },
+            "left-mode" => FinalItem::Mode {
                 name,
                 mode: parse_mode(value)?,
-            })?,
-            "left-link" => self.final_items.push(FinalItem::Link { name })?,
-            "left-same" => self.final_items.push(FinalItem::SameFile { name })?,
+            },
+            "left-link" => FinalItem::Link { name },
+            "left-same" => FinalItem::SameFile { name },
             _ => return Ok(false),
-        }
+        };
+        self.final_items.push(item)?;
         Ok(true)
     }
 }

@@ -37,6 +37,7 @@ mod refusing_allocator;
 mod script;
 mod table;
 mod trouble;
+mod words;
 
 pub use crate::case::{Case, Fact, Speaker, TranscriptEntry};
 pub use crate::command::{Invocation, Program, parse_command, split_first_word, split_words};

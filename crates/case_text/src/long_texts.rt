@@ -13,72 +13,60 @@ use std::alloc::Global;
 /// Returns the generated text with this name.
 pub(crate) fn long_text(alloc: Global, name: &str, format: Format) -> Result<Vec<u8>, Trouble> {
     let count = parse_number(name.as_bytes());
-    let mut text = Vec::new(alloc);
     if name.starts_with("pack-") {
-        add_pack(alloc, count, format, &mut text)?;
+        pack(alloc, count, format)
     } else {
-        add_repository(alloc, count, format, name.ends_with("-late"), &mut text)?;
+        repository(alloc, count, format, name.ends_with("-late"))
     }
+}
+
+fn pack(alloc: Global, count: usize, format: Format) -> Result<Vec<u8>, Trouble> {
+    let mut text = Vec::new(alloc);
+    text.extend_from_slice(b"GPK1\n")?;
+    add_chain(alloc, count, format, false, &mut text)?;
+    let end = format!(in alloc; "end {count}\n")?;
+    text.extend_from_slice(end.as_bytes())?;
     Ok(text)
 }
 
-fn add_pack(
+fn repository(
     alloc: Global,
     count: usize,
     format: Format,
-    text: &mut Vec<u8>,
-) -> Result<(), Trouble> {
-    text.extend_from_slice(b"GPK1\n")?;
-    add_chain(alloc, count, format, text)?;
-    let end = format!(in alloc; "end {count}\n")?;
-    text.extend_from_slice(end.as_bytes())?;
-    Ok(())
+    parents_come_last: bool,
+) -> Result<Vec<u8>, Trouble> {
+    let mut text = Vec::new(alloc);
+    text.extend_from_slice(first_line(format))?;
+    add_chain(alloc, count, format, parents_come_last, &mut text)?;
+    text.extend_from_slice(b"r ")?;
+    add_id(alloc, 1, format, &mut text)?;
+    text.extend_from_slice(b" refs/heads/main\nh none\nend\n")?;
+    Ok(text)
 }
 
-fn add_repository(
+/// Returns the first line of a repository's text.
+pub(crate) fn first_line(format: Format) -> &'static [u8] {
+    match format {
+        Format::Sha1 => b"gitv2 1\n",
+        Format::Sha256 => b"gitv2 2 sha256\n",
+    }
+}
+
+// Appends a chain of commits, each after its parent, or each before its parent if
+// `parents_come_last`.
+fn add_chain(
     alloc: Global,
     count: usize,
     format: Format,
     parents_come_last: bool,
     text: &mut Vec<u8>,
 ) -> Result<(), Trouble> {
-    let first_line: &[u8] = match format {
-        Format::Sha1 => b"gitv2 1\n",
-        Format::Sha256 => b"gitv2 2 sha256\n",
-    };
-    text.extend_from_slice(first_line)?;
-    if parents_come_last {
-        add_late_chain(alloc, count, format, text)?;
-    } else {
-        add_chain(alloc, count, format, text)?;
-    }
-    text.extend_from_slice(b"r ")?;
-    add_id(alloc, 1, format, text)?;
-    text.extend_from_slice(b" refs/heads/main\nh none\nend\n")?;
-    Ok(())
-}
-
-// Appends a chain of commits, each after its parent.
-fn add_chain(
-    alloc: Global,
-    count: usize,
-    format: Format,
-    text: &mut Vec<u8>,
-) -> Result<(), Trouble> {
     for index in 0..count {
-        add_commit(alloc, count.saturating_sub(index), count, format, text)?;
-    }
-    Ok(())
-}
-
-// Appends a chain of commits, each before its parent.
-fn add_late_chain(
-    alloc: Global,
-    count: usize,
-    format: Format,
-    text: &mut Vec<u8>,
-) -> Result<(), Trouble> {
-    for number in 1..=count {
+        let number = if parents_come_last {
+            index.saturating_add(1)
+        } else {
+            count.saturating_sub(index)
+        };
         add_commit(alloc, number, count, format, text)?;
     }
     Ok(())

@@ -1,5 +1,6 @@
 //! Packers and indexers for tests. Most of them fail or break their contracts.
 
+use crate::words::value_of_word;
 use ggraph::{Entry, IndexFault, Indexer, Kind, Node, PackFault, Packer, Parents, PlainPack};
 use gname::{Format, MAX_ID_TEXT, Oid};
 use std::alloc::Allocator;
@@ -35,32 +36,36 @@ pub enum PackTool {
     CheckingIndexer,
 }
 
+// The packers with their names in test files.
+const PACKERS: &[(&str, PackTool)] = &[
+    ("empty", PackTool::EmptyPacker),
+    ("short", PackTool::ShortPacker),
+    ("fails", PackTool::FailingPacker),
+    ("large", PackTool::TooLargePacker),
+    ("memory", PackTool::OutOfMemoryPacker),
+];
+
+// The indexers with their names in test files.
+const INDEXERS: &[(&str, PackTool)] = &[
+    ("drops-first", PackTool::DropFirstIndexer),
+    ("other-parent", PackTool::WrongParentIndexer),
+    ("many-parents", PackTool::ManyParentsIndexer),
+    ("two-parent-tag", PackTool::TwoParentTagIndexer),
+    ("fails", PackTool::FailingStartIndexer),
+    ("fails-at-piece", PackTool::FailingFeedIndexer),
+    ("fails-at-end", PackTool::FailingFinishIndexer),
+    ("watches", PackTool::CheckingIndexer),
+];
+
 impl PackTool {
     /// Returns the packer with this name in test files, or `None` if there is no such packer.
     pub fn packer_named(name: &str) -> Option<PackTool> {
-        match name {
-            "empty" => Some(PackTool::EmptyPacker),
-            "short" => Some(PackTool::ShortPacker),
-            "fails" => Some(PackTool::FailingPacker),
-            "large" => Some(PackTool::TooLargePacker),
-            "memory" => Some(PackTool::OutOfMemoryPacker),
-            _ => None,
-        }
+        value_of_word(PACKERS, name)
     }
 
     /// Returns the indexer with this name in test files, or `None` if there is no such indexer.
     pub fn indexer_named(name: &str) -> Option<PackTool> {
-        match name {
-            "drops-first" => Some(PackTool::DropFirstIndexer),
-            "other-parent" => Some(PackTool::WrongParentIndexer),
-            "many-parents" => Some(PackTool::ManyParentsIndexer),
-            "two-parent-tag" => Some(PackTool::TwoParentTagIndexer),
-            "fails" => Some(PackTool::FailingStartIndexer),
-            "fails-at-piece" => Some(PackTool::FailingFeedIndexer),
-            "fails-at-end" => Some(PackTool::FailingFinishIndexer),
-            "watches" => Some(PackTool::CheckingIndexer),
-            _ => None,
-        }
+        value_of_word(INDEXERS, name)
     }
 
     /// Returns whether this is a packer.
@@ -86,16 +91,17 @@ impl PackTool {
         alloc: A,
         entries: &[Entry<A>],
     ) -> Result<Vec<u8, A>, PackFault> {
-        match self {
-            PackTool::EmptyPacker => PlainPack.pack(alloc, &entries[..0]),
+        let packed = match self {
+            PackTool::EmptyPacker => &entries[..0],
             PackTool::ShortPacker => match entries.split_last() {
-                Some((_, others)) => PlainPack.pack(alloc, others),
-                None => PlainPack.pack(alloc, entries),
+                Some((_, others)) => others,
+                None => entries,
             },
-            PackTool::TooLargePacker => Err(PackFault::TooLarge),
-            PackTool::OutOfMemoryPacker => Err(PackFault::Memory),
-            _ => Err(PackFault::Other),
-        }
+            PackTool::TooLargePacker => return Err(PackFault::TooLarge),
+            PackTool::OutOfMemoryPacker => return Err(PackFault::Memory),
+            _ => return Err(PackFault::Other),
+        };
+        PlainPack.pack(alloc, packed)
     }
 
     /// Starts the indexing of a pack. Fails if this is `FailingStartIndexer`.
@@ -184,23 +190,16 @@ fn invented_entry<A: Allocator + Copy>(
     format: Format,
     alloc: A,
 ) -> Result<Entry<A>, IndexFault> {
-    let a = id_of_digit(format, b'a')?;
-    let c = id_of_digit(format, b'c')?;
-    match pack_tool {
-        PackTool::WrongParentIndexer => entry(
-            alloc,
-            a,
-            Kind::Commit,
-            &[id_of_digit(format, b'd')?],
-        ),
-        PackTool::ManyParentsIndexer => entry(
-            alloc,
-            c,
-            Kind::Commit,
-            &[id_of_digit(format, b'b')?; 65],
-        ),
-        PackTool::TwoParentTagIndexer => entry(alloc, c, Kind::Tag, &[a; 2]),
-        _ => Err(IndexFault::Other),
+    let (digit, kind, parent_digit, parent_count) = match pack_tool {
+        PackTool::WrongParentIndexer => (b'a', Kind::Commit, b'd', 1),
+        PackTool::ManyParentsIndexer => (b'c', Kind::Commit, b'b', 65),
+        PackTool::TwoParentTagIndexer => (b'c', Kind::Tag, b'a', 2),
+        _ => return Err(IndexFault::Other),
+    };
+    let parents = [id_of_digit(format, parent_digit)?; 65];
+    match parents.get(..parent_count) {
+        Some(parents) => entry(alloc, id_of_digit(format, digit)?, kind, parents),
+        None => Err(IndexFault::Other),
     }
 }
 
@@ -210,8 +209,18 @@ fn entries_without_first<A: Allocator + Copy>(
     pack: &[u8],
 ) -> Result<Vec<Entry<A>, A>, IndexFault> {
     let entries = PlainPack.index(alloc, pack)?;
+    match entries.as_slice() {
+        [_, others @ ..] => copy_entries(alloc, others),
+        [] => Ok(Vec::new(alloc)),
+    }
+}
+
+fn copy_entries<A: Allocator + Copy>(
+    alloc: A,
+    entries: &[Entry<A>],
+) -> Result<Vec<Entry<A>, A>, IndexFault> {
     let mut list = Vec::new(alloc);
-    for entry in entries.as_slice().iter().skip(1) {
+    for entry in entries {
         list.push(entry.copy_in(alloc)?)?;
     }
     Ok(list)

@@ -1,43 +1,42 @@
 //! Packets from the lines of a test case.
 
-use crate::case::Speaker;
+use crate::case::{Speaker, TranscriptEntry};
 use crate::trouble::Trouble;
 use std::alloc::Global;
 
-/// The maximum number of side-band bytes in one packet.
-const MAX_SIDE_BAND_BYTES: usize = 65_515;
-
-/// Returns the speaker and the bytes of a line with this keyword, or `None` for an unknown keyword.
+/// Returns the transcript entry of a line with this keyword. Fails with `UnknownLine` if the
+/// keyword is unknown.
 pub(crate) fn read_entry(
     alloc: Global,
     keyword: &str,
     bytes: &[u8],
-) -> Result<Option<(Speaker, Vec<u8>)>, Trouble> {
+) -> Result<TranscriptEntry, Trouble> {
     let (speaker, form) = match keyword.as_bytes() {
         [b'C', form] => (Speaker::Client, *form),
         [b'S', form] => (Speaker::Server, *form),
         [b'|'] => (Speaker::Output, b'|'),
         [b'!'] => (Speaker::Errors, b'|'),
         b"report" => (Speaker::Report, b'|'),
-        _ => return Ok(None),
+        _ => return Err(Trouble::UnknownLine),
     };
-    let entry_bytes = match form {
-        b':' => text_packet(alloc, bytes)?,
-        b'.' => packet(alloc, b"", bytes, b"")?,
-        b'1' => packet(alloc, b"\x01", bytes, b"")?,
-        b'2' => packet(alloc, b"\x02", bytes, b"")?,
-        b'3' => packet(alloc, b"\x03", bytes, b"")?,
-        b'=' => concatenate(alloc, bytes, b"")?,
-        b'|' => concatenate(alloc, bytes, b"\n")?,
-        _ => return Ok(None),
-    };
-    Ok(Some((speaker, entry_bytes)))
+    let bytes = entry_bytes(alloc, form, bytes)?;
+    Ok(TranscriptEntry { speaker, bytes })
 }
 
-/// Returns a packet of side band 1 with as many of the bytes as fit, and the remaining bytes.
-pub(crate) fn full_packet(alloc: Global, bytes: &[u8]) -> Result<(Vec<u8>, &[u8]), Trouble> {
-    let (part, rest) = bytes.split_at(bytes.len().min(MAX_SIDE_BAND_BYTES));
-    Ok((packet(alloc, b"\x01", part, b"")?, rest))
+// Returns the text as a packet, as bytes or as a line. The form is the character that ends the
+// keyword.
+fn entry_bytes(alloc: Global, form: u8, text: &[u8]) -> Result<Vec<u8>, Trouble> {
+    let band: &[u8] = match form {
+        b':' => return text_packet(alloc, text),
+        b'=' => return concatenate(alloc, text, b""),
+        b'|' => return concatenate(alloc, text, b"\n"),
+        b'.' => b"",
+        b'1' => b"\x01",
+        b'2' => b"\x02",
+        b'3' => b"\x03",
+        _ => return Err(Trouble::UnknownLine),
+    };
+    packet(alloc, band, text, b"")
 }
 
 /// Returns the special packet `0000`, `0001` or `0002` if the text is that packet. Otherwise
@@ -55,16 +54,24 @@ pub fn packet(alloc: Global, first: &[u8], text: &[u8], last: &[u8]) -> Result<V
     let len = first
         .len()
         .saturating_add(text.len())
-        .saturating_add(last.len())
-        .saturating_add(4);
+        .saturating_add(last.len());
     let mut bytes = Vec::new(alloc);
-    for shift in [12u32, 8, 4, 0] {
-        bytes.push(hex_digit(len.min(0xffff) >> shift))?;
-    }
+    bytes.extend_from_slice(&length_field(len))?;
     bytes.extend_from_slice(first)?;
     bytes.extend_from_slice(text)?;
     bytes.extend_from_slice(last)?;
     Ok(bytes)
+}
+
+// Returns the length field of a packet that contains this many bytes.
+fn length_field(len: usize) -> [u8; 4] {
+    let len = len.saturating_add(4).min(0xffff);
+    [
+        hex_digit(len >> 12),
+        hex_digit(len >> 8),
+        hex_digit(len >> 4),
+        hex_digit(len),
+    ]
 }
 
 fn hex_digit(number: usize) -> u8 {
@@ -75,7 +82,8 @@ fn hex_digit(number: usize) -> u8 {
     }
 }
 
-fn concatenate(alloc: Global, text: &[u8], last: &[u8]) -> Result<Vec<u8>, Trouble> {
+/// Returns the bytes of `text` and then of `last`.
+pub(crate) fn concatenate(alloc: Global, text: &[u8], last: &[u8]) -> Result<Vec<u8>, Trouble> {
     let mut bytes = Vec::new(alloc);
     bytes.extend_from_slice(text)?;
     bytes.extend_from_slice(last)?;

@@ -7,8 +7,9 @@ use crate::case::{Case, Fact, TranscriptEntry};
 use crate::command::split_first_word;
 use crate::escapes::{EscapeContext, NamedText, expand_escapes, find_text, parse_number};
 use crate::kind::FactKind;
-use crate::line_parser::{LineParser, adapt_to_format};
-use crate::long_texts::long_text;
+use crate::line_parser::{adapt_to_format, add_entries, add_keyword_entries};
+use crate::long_texts::{first_line, long_text};
+use crate::packets::concatenate;
 use crate::table::{ExpectedOutcome, TableLine};
 use crate::trouble::Trouble;
 use gname::Format;
@@ -158,45 +159,51 @@ impl<'a> Script<'a> {
         self.format == Format::Sha256 && !self.runs_both_formats
     }
 
-    fn escape_context(&self, repetition: usize) -> EscapeContext {
+    fn set_repetitions(&mut self, digits: &str) -> Result<(), Trouble> {
+        self.repetitions = parse_number(digits.as_bytes());
+        Ok(())
+    }
+
+    fn escape_context(&self, repetition: usize) -> EscapeContext<'_, 'a> {
         EscapeContext {
+            texts: self.texts.as_slice(),
             format: self.format,
             repetition,
         }
     }
 
+    // Returns the bytes of a line after all escapes are replaced.
+    fn expand(&self, alloc: Global, line: &str) -> Result<Vec<u8>, Trouble> {
+        expand_escapes(alloc, line, self.escape_context(1))
+    }
+
     fn use_talk(&mut self, alloc: Global, name: &str) -> Result<(), Trouble> {
-        let line_parser = LineParser {
+        let escape_context = EscapeContext {
             texts: self.texts.as_slice(),
             format: self.format,
             repetition: 1,
         };
-        let Some(case) = self.cases.last_mut() else {
-            return Err(Trouble::NoCurrentRow);
-        };
-        let Some(lines) = talk_lines(self.talks.as_slice(), name) else {
-            return Err(Trouble::UnknownName);
-        };
-        for line in lines {
-            line_parser.add_entries(alloc, line, &mut case.transcript)?;
+        let talks = self.talks.as_slice();
+        match self.cases.last_mut() {
+            Some(case) => add_talk(alloc, talks, name, escape_context, &mut case.transcript),
+            None => Err(Trouble::NoCurrentRow),
         }
-        Ok(())
     }
 
     fn add_long_text(&mut self, alloc: Global, name: &'a str) -> Result<(), Trouble> {
         let bytes = long_text(alloc, name, self.format)?;
-        self.texts.push(NamedText {
-            name: name.as_bytes(),
-            bytes,
-        })?;
-        Ok(())
+        self.add_text(name, bytes)
     }
 
     fn begin_text(&mut self, alloc: Global, name: &'a str) -> Result<(), Trouble> {
         self.open_block = OpenBlock::Text;
+        self.add_text(name, Vec::new(alloc))
+    }
+
+    fn add_text(&mut self, name: &'a str, bytes: Vec<u8>) -> Result<(), Trouble> {
         self.texts.push(NamedText {
             name: name.as_bytes(),
-            bytes: Vec::new(alloc),
+            bytes,
         })?;
         Ok(())
     }
@@ -220,22 +227,26 @@ impl<'a> Script<'a> {
 
     fn add_to_text(&mut self, alloc: Global, line: &'a str) -> Result<(), Trouble> {
         if let Some(repetitions) = line.strip_prefix("times ") {
-            self.repetitions = parse_number(repetitions.as_bytes());
-            return Ok(());
+            return self.set_repetitions(repetitions);
         }
         let line = adapt_to_format(self.format, line);
         for repetition in 1..=self.take_repetitions() {
-            let escape_context = self.escape_context(repetition);
-            let bytes = expand_escapes(
-                alloc,
-                self.texts.as_slice(),
-                line.as_bytes(),
-                escape_context,
-            )?;
-            if let Some(text) = self.texts.last_mut() {
-                text.bytes.extend_from_slice(bytes.as_slice())?;
-                text.bytes.push(b'\n')?;
-            }
+            self.add_text_line(alloc, line, repetition)?;
+        }
+        Ok(())
+    }
+
+    // Appends a line to the last text.
+    fn add_text_line(
+        &mut self,
+        alloc: Global,
+        line: &str,
+        repetition: usize,
+    ) -> Result<(), Trouble> {
+        let bytes = expand_escapes(alloc, line, self.escape_context(repetition))?;
+        if let Some(text) = self.texts.last_mut() {
+            text.bytes.extend_from_slice(bytes.as_slice())?;
+            text.bytes.push(b'\n')?;
         }
         Ok(())
     }
@@ -282,13 +293,7 @@ impl<'a> Script<'a> {
         if self.excludes_format() {
             return Ok(());
         }
-        let escape_context = self.escape_context(1);
-        let expected = expand_escapes(
-            alloc,
-            self.texts.as_slice(),
-            expected.as_bytes(),
-            escape_context,
-        )?;
+        let expected = self.expand(alloc, expected)?;
         let text = self.fact_text(alloc, text)?;
         self.facts.push(Fact {
             file_name: self.file_name,
@@ -306,24 +311,13 @@ impl<'a> Script<'a> {
     // Returns the text of a fact. The first line of a repository's text is adapted to the script's
     // object format.
     fn fact_text(&self, alloc: Global, line: &str) -> Result<Vec<u8>, Trouble> {
-        let escape_context = self.escape_context(1);
-        let mut text = Vec::new(alloc);
-        let rest = match line.strip_prefix("gitv2 1\\n") {
+        match line.strip_prefix("gitv2 1\\n") {
             Some(rest) => {
-                text.extend_from_slice(adapt_to_format(self.format, "gitv2 1").as_bytes())?;
-                text.push(b'\n')?;
-                rest
+                let rest = self.expand(alloc, rest)?;
+                concatenate(alloc, first_line(self.format), rest.as_slice())
             }
-            None => line,
-        };
-        let rest = expand_escapes(
-            alloc,
-            self.texts.as_slice(),
-            rest.as_bytes(),
-            escape_context,
-        )?;
-        text.extend_from_slice(rest.as_slice())?;
-        Ok(text)
+            None => self.expand(alloc, line),
+        }
     }
 
     fn add_to_case(
@@ -333,29 +327,28 @@ impl<'a> Script<'a> {
         value: &'a str,
     ) -> Result<(), Trouble> {
         match keyword {
-            "times" => self.repetitions = parse_number(value.as_bytes()),
-            "memory" => return self.add_memory_fault(alloc, value),
-            "packets" => return self.add_packet_offsets(value),
-            "cut" | "change" => return self.add_table_line(alloc, keyword == "cut", value),
-            _ => {
-                if !self.read_case_line(alloc, keyword, value)? {
-                    return self.add_repeated_entries(alloc, keyword, value);
-                }
-            }
+            "times" => self.set_repetitions(value),
+            "memory" => self.add_memory_fault(alloc, value),
+            "packets" => self.add_packet_offsets(value),
+            "cut" | "change" => self.add_table_line(alloc, keyword == "cut", value),
+            _ => self.read_case_line(alloc, keyword, value),
         }
-        Ok(())
     }
 
+    // Parses a line about the whole case, about its launch or about its transcript.
     fn read_case_line(
         &mut self,
         alloc: Global,
-        keyword: &str,
+        keyword: &'a str,
         value: &'a str,
-    ) -> Result<bool, Trouble> {
-        match self.cases.last_mut() {
-            Some(case) => case.read_line(alloc, keyword, value),
-            None => Err(Trouble::NoCurrentRow),
+    ) -> Result<(), Trouble> {
+        let Some(case) = self.cases.last_mut() else {
+            return Err(Trouble::NoCurrentRow);
+        };
+        if case.read_line(alloc, keyword, value)? {
+            return Ok(());
         }
+        self.add_repeated_entries(alloc, keyword, value)
     }
 
     // Appends the transcript entries of a line once for each repetition of the line.
@@ -370,24 +363,18 @@ impl<'a> Script<'a> {
             return Err(Trouble::NoCurrentRow);
         };
         for repetition in 1..=repetitions {
-            let line_parser = LineParser {
+            let escape_context = EscapeContext {
                 texts: self.texts.as_slice(),
                 format: self.format,
                 repetition,
             };
-            line_parser.add_keyword_entries(alloc, keyword, value, &mut case.transcript)?;
+            add_keyword_entries(alloc, keyword, value, escape_context, &mut case.transcript)?;
         }
         Ok(())
     }
 
     fn add_memory_fault(&mut self, alloc: Global, line: &str) -> Result<(), Trouble> {
-        let escape_context = self.escape_context(1);
-        let fault = expand_escapes(
-            alloc,
-            self.texts.as_slice(),
-            line.as_bytes(),
-            escape_context,
-        )?;
+        let fault = self.expand(alloc, line)?;
         match self.cases.last_mut() {
             Some(case) => Ok(case.memory_faults.push(fault)?),
             None => Err(Trouble::NoCurrentRow),
@@ -444,20 +431,33 @@ impl<'a> Script<'a> {
 
     // Returns the bytes of all entries in the talk with this name.
     fn talk_bytes(&self, alloc: Global, name: &str) -> Result<Vec<u8>, Trouble> {
-        let Some(lines) = talk_lines(self.talks.as_slice(), name) else {
-            return Err(Trouble::UnknownName);
-        };
-        let line_parser = LineParser {
-            texts: self.texts.as_slice(),
-            format: self.format,
-            repetition: 1,
-        };
         let mut transcript = Vec::new(alloc);
-        for line in lines {
-            line_parser.add_entries(alloc, line, &mut transcript)?;
-        }
+        add_talk(
+            alloc,
+            self.talks.as_slice(),
+            name,
+            self.escape_context(1),
+            &mut transcript,
+        )?;
         bytes_of_entries(alloc, transcript.as_slice())
     }
+}
+
+// Appends the transcript entries of the talk with this name.
+fn add_talk(
+    alloc: Global,
+    talks: &[Talk<'_>],
+    name: &str,
+    escape_context: EscapeContext<'_, '_>,
+    transcript: &mut Vec<TranscriptEntry>,
+) -> Result<(), Trouble> {
+    let Some(lines) = talk_lines(talks, name) else {
+        return Err(Trouble::UnknownName);
+    };
+    for line in lines {
+        add_entries(alloc, line, escape_context, transcript)?;
+    }
+    Ok(())
 }
 
 fn bytes_of_entries(alloc: Global, transcript: &[TranscriptEntry]) -> Result<Vec<u8>, Trouble> {

@@ -13,8 +13,9 @@
 //! text of an error to the client, and `FAULT` is the printed line of the fault. In `TEXT` and
 //! `FAULT`, `{}` is replaced by the input bytes at the line's positions, in lower case.
 
-use crate::escapes::{hex_value, parse_number};
-use crate::packets::packet;
+use crate::command::split_first_word;
+use crate::escapes::{hex_byte, hex_value, parse_number};
+use crate::packets::{concatenate, packet};
 use crate::trouble::Trouble;
 use std::alloc::Global;
 
@@ -102,19 +103,13 @@ impl<'a> TableLine<'a> {
         offsets: &'a str,
         expected: ExpectedOutcome<'a>,
     ) -> TableLine<'a> {
-        let (offsets, bytes) = match offsets.split_once(' ') {
-            Some((offsets, bytes)) => (offsets, bytes),
-            None => (offsets, ""),
-        };
-        let (first, last) = match offsets.split_once('-') {
-            Some((first, last)) => (first, last),
-            None => (offsets, offsets),
-        };
+        let (offsets, byte_list) = split_first_word(offsets);
+        let (first, last) = split_range(offsets);
         TableLine {
             is_cut,
             first_offset: parse_number(first.as_bytes()),
             last_offset: parse_number(last.as_bytes()),
-            byte_list: bytes,
+            byte_list,
             expected,
         }
     }
@@ -140,11 +135,10 @@ impl<'a> TableLine<'a> {
         text: &str,
         input: &[u8],
     ) -> Result<Vec<u8>, Trouble> {
-        let mut bytes = Vec::new(alloc);
         let Some((before, after)) = text.split_once("{}") else {
-            bytes.extend_from_slice(text.as_bytes())?;
-            return Ok(bytes);
+            return concatenate(alloc, text.as_bytes(), b"");
         };
+        let mut bytes = Vec::new(alloc);
         bytes.extend_from_slice(before.as_bytes())?;
         if let Some(part) = input.get(self.first_offset..self.last_offset.saturating_add(1)) {
             for byte in part {
@@ -161,10 +155,7 @@ impl<'a> TableLine<'a> {
 // digits.
 fn lists_byte(byte_list: &str, byte: u8) -> bool {
     for token in byte_list.split(' ') {
-        let (first, last) = match token.split_once('-') {
-            Some((first, last)) => (first, last),
-            None => (token, token),
-        };
+        let (first, last) = split_range(token);
         if token == "other" || (parse_byte(first) <= byte && byte <= parse_byte(last)) {
             return true;
         }
@@ -172,13 +163,19 @@ fn lists_byte(byte_list: &str, byte: u8) -> bool {
     false
 }
 
+// Returns the first and the last item of a range, or the item twice if the text is a single item.
+fn split_range(text: &str) -> (&str, &str) {
+    match text.split_once('-') {
+        Some((first, last)) => (first, last),
+        None => (text, text),
+    }
+}
+
 // Parses a single character, or `x` and two hexadecimal digits.
 fn parse_byte(token: &str) -> u8 {
     match token.as_bytes() {
         [byte] => *byte,
-        [b'x', high, low] => hex_value(*high)
-            .wrapping_mul(16)
-            .wrapping_add(hex_value(*low)),
+        [b'x', high, low] => hex_byte(*high, *low),
         _ => 0,
     }
 }
