@@ -1,6 +1,6 @@
 //! The arguments of a command line, as a program receives them.
 
-use case_text::{Invocation, Program, Trouble, split_words};
+use case_text::{Invocation, Program, Trouble};
 use case_tries::Row;
 use gcmd::Ends;
 use gname::MAX_PACK;
@@ -40,23 +40,16 @@ fn address_of(alloc: Global, command: Invocation<'_>) -> Result<String, Trouble>
     Ok(format!(in alloc; "{host}:9418")?)
 }
 
-/// Returns the arguments of a row's command, starting with the program's name.
-pub(crate) fn command_arguments(
-    alloc: Global,
-    command: Invocation<'_>,
-) -> Result<Vec<String>, Trouble> {
-    let mut arguments = Vec::new(alloc);
-    add_command(alloc, command, &mut arguments)?;
-    Ok(arguments)
-}
-
-fn add_command(
+/// Appends the arguments of a row's command, starting with the program's name.
+pub(crate) fn add_command(
     alloc: Global,
     command: Invocation<'_>,
     arguments: &mut Vec<String>,
 ) -> Result<(), Trouble> {
     push_arguments(alloc, fixed_arguments(command), arguments)?;
-    add_location(alloc, command, arguments)?;
+    if command.has_hello() {
+        add_location(alloc, command, arguments)?;
+    }
     add_options(alloc, command, arguments)?;
     if command.program != Program::Lines && command.program != Program::LsClient {
         add_argument(alloc, file_name_for(command.repository_name), arguments)?;
@@ -66,8 +59,8 @@ fn add_command(
 
 fn add_operands(alloc: Global, operands: &str, arguments: &mut Vec<String>) -> Result<(), Trouble> {
     if !operands.is_empty() {
-        for argument in split_words(alloc, operands)? {
-            arguments.push(argument)?;
+        for word in operands.split(' ') {
+            add_argument(alloc, word, arguments)?;
         }
     }
     Ok(())
@@ -93,18 +86,14 @@ fn add_location(
     command: Invocation<'_>,
     arguments: &mut Vec<String>,
 ) -> Result<(), Trouble> {
-    if !command.has_hello() {
-        return Ok(());
-    }
     let option = if command.program == Program::Serve {
         "--listen"
     } else {
         "--tcp"
     };
-    add_argument(alloc, option, arguments)?;
-    arguments.push(address_of(alloc, command)?)?;
-    add_argument(alloc, "--path", arguments)?;
-    add_argument(alloc, command.path, arguments)
+    let address = address_of(alloc, command)?;
+    let location = [option, address.as_str(), "--path", command.path];
+    add_arguments(alloc, &location, arguments)
 }
 
 fn add_options(
@@ -113,12 +102,22 @@ fn add_options(
     arguments: &mut Vec<String>,
 ) -> Result<(), Trouble> {
     if command.program == Program::Fetch && command.pack_limit != MAX_PACK {
-        let limit = command.pack_limit;
-        add_argument(alloc, "--limit", arguments)?;
-        arguments.push(format!(in alloc; "{limit}")?)?;
+        let limit = format!(in alloc; "{}", command.pack_limit)?;
+        add_arguments(alloc, &["--limit", limit.as_str()], arguments)?;
     }
     if command.reply_ends == Ends::Response {
         add_argument(alloc, "--response-end", arguments)?;
+    }
+    Ok(())
+}
+
+fn add_arguments(
+    alloc: Global,
+    words: &[&str],
+    arguments: &mut Vec<String>,
+) -> Result<(), Trouble> {
+    for word in words {
+        add_argument(alloc, word, arguments)?;
     }
     Ok(())
 }
@@ -134,15 +133,17 @@ pub fn push_arguments(
     text: &str,
     arguments: &mut Vec<String>,
 ) -> Result<(), Trouble> {
-    for argument in text.split(' ') {
-        match argument {
-            "" => {}
-            "\"\"" => arguments.push(String::new(alloc))?,
-            _ => add_argument(alloc, argument, arguments)?,
+    for word in text.split(' ') {
+        if !word.is_empty() {
+            let argument = if word == EMPTY_ARGUMENT { "" } else { word };
+            add_argument(alloc, argument, arguments)?;
         }
     }
     Ok(())
 }
+
+// The word for an empty argument.
+const EMPTY_ARGUMENT: &str = "\"\"";
 
 // The name of the file for an unnamed text.
 const UNNAMED_FILE: &str = "none";

@@ -65,6 +65,14 @@ impl<'a> Journal<'a> {
         }
     }
 
+    /// Returns whether the recorded operations are as expected. `None` accepts all operations.
+    pub(crate) fn has_expected_steps(&self, expected: Option<&str>) -> bool {
+        match self.steps.try_borrow() {
+            Ok(steps) => expected.is_none() || expected == Some(steps.as_str()),
+            Err(_) => false,
+        }
+    }
+
     fn is_last_step(&self, step: &str) -> bool {
         match self.steps.try_borrow() {
             Ok(steps) => steps.as_str().rsplit(", ").next() == Some(step),

@@ -5,7 +5,7 @@ use crate::file::RecordedFile;
 use crate::journal::Journal;
 use crate::peers::Peers;
 use crate::plan::Plan;
-use std::alloc::{AllocError, Allocator, Global};
+use std::alloc::{Allocator, Global};
 use std::cell::RefCell;
 use std::env::FillError;
 use std::fmt::Display;
@@ -53,10 +53,15 @@ impl<'a, R> LaunchRuntime<'a, R> {
     }
 
     /// Returns all bytes written to standard output.
-    pub(crate) fn written_bytes(&self) -> Result<Vec<u8>, AllocError> {
+    pub(crate) fn into_output(self) -> Vec<u8> {
+        self.output.into_inner()
+    }
+
+    // Returns the port if the program's output so far is exactly the line that states its port.
+    fn listening_port(&self) -> Option<u16> {
         match self.output.try_borrow() {
-            Ok(output) => Vec::from_slice(self.alloc, output.as_slice()),
-            Err(_) => Ok(Vec::new(self.alloc)),
+            Ok(output) => parse_listening_line(output.as_slice()),
+            Err(_) => None,
         }
     }
 
@@ -71,8 +76,7 @@ impl<'a, R> LaunchRuntime<'a, R> {
 impl<R: Net<Stream = TcpStream>> LaunchRuntime<'_, R> {
     // Connects the clients if the program's output so far is exactly the line that states its port.
     fn connect_clients_if_listening(&self) -> io::Result<()> {
-        let written = self.written_bytes()?;
-        match listening_port(written.as_slice()) {
+        match self.listening_port() {
             Some(port) => self.peers.connect_clients(self.rt, port),
             None => Ok(()),
         }
@@ -81,7 +85,7 @@ impl<R: Net<Stream = TcpStream>> LaunchRuntime<'_, R> {
 
 // Returns the port in the line that a listening server prints, or `None` if the output is not this
 // line.
-fn listening_port(output: &[u8]) -> Option<u16> {
+fn parse_listening_line(output: &[u8]) -> Option<u16> {
     let line = std::str::from_utf8(output).ok()?;
     let digits = line.strip_prefix("listening ")?.strip_suffix("\n")?;
     digits.parse::<u16>().ok()

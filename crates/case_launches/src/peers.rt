@@ -1,6 +1,6 @@
 //! The peers of the program's connections.
 
-use std::alloc::{AllocError, Global};
+use std::alloc::Global;
 use std::cell::{Cell, RefCell};
 use std::io;
 use std::io::{ErrorKind, Read, Write};
@@ -19,17 +19,6 @@ impl Exchange {
             sent_bytes: Vec::new(alloc),
             expected_bytes: Vec::new(alloc),
         }
-    }
-
-    pub(crate) fn of_bytes(
-        alloc: Global,
-        sent_bytes: &[u8],
-        expected_bytes: &[u8],
-    ) -> Result<Exchange, AllocError> {
-        Ok(Exchange {
-            sent_bytes: Vec::from_slice(alloc, sent_bytes)?,
-            expected_bytes: Vec::from_slice(alloc, expected_bytes)?,
-        })
     }
 }
 
@@ -96,10 +85,24 @@ impl<'a> Peers<'a> {
             return Err(io::Error::from(ErrorKind::ConnectionRefused));
         };
         let listener = TcpListener::bind(rt, "127.0.0.1:0")?;
+        self.connect_to(rt, &listener, exchange)
+    }
+
+    // Returns the program's stream for a connection to the listener, and stores the peer's stream.
+    fn connect_to<R: Net<Stream = TcpStream>>(
+        &self,
+        rt: &R,
+        listener: &TcpListener,
+        exchange: &Exchange,
+    ) -> io::Result<TcpStream> {
         let program_stream = TcpStream::connect(rt, listener.local_addr()?)?;
-        let (peer_stream, _) = listener.accept()?;
-        self.send_and_store(peer_stream, exchange)?;
+        self.accept_peer(listener, exchange)?;
         Ok(program_stream)
+    }
+
+    fn accept_peer(&self, listener: &TcpListener, exchange: &Exchange) -> io::Result<()> {
+        let (peer_stream, _) = listener.accept()?;
+        self.send_and_store(peer_stream, exchange)
     }
 
     fn count_waiting_connection(&self) {
@@ -126,8 +129,7 @@ impl<'a> Peers<'a> {
     // Sends the bytes of a peer, shuts down writing, and stores the stream.
     fn send_and_store(&self, stream: TcpStream, exchange: &Exchange) -> io::Result<()> {
         let mut stream = stream;
-        stream.write_all(exchange.sent_bytes.as_slice())?;
-        stream.shutdown(Shutdown::Write)?;
+        send(&mut stream, exchange.sent_bytes.as_slice())?;
         match self.streams.try_borrow_mut() {
             Ok(mut streams) => streams.push(stream).map_err(io::Error::from),
             Err(_) => Err(io::Error::from(ErrorKind::Other)),
@@ -142,6 +144,12 @@ impl<'a> Peers<'a> {
             Err(_) => false,
         }
     }
+}
+
+// Writes all bytes, and shuts down writing.
+fn send(stream: &mut TcpStream, bytes: &[u8]) -> io::Result<()> {
+    stream.write_all(bytes)?;
+    stream.shutdown(Shutdown::Write)
 }
 
 fn have_received(alloc: Global, streams: &mut [TcpStream], exchanges: &[Exchange]) -> bool {

@@ -1,13 +1,13 @@
 //! A plan: the arguments, files and peers of a program, and all expected results.
 
-use crate::arguments::{command_arguments, file_name_for, push_arguments};
+use crate::arguments::{add_command, file_name_for, push_arguments};
 use crate::planned_streams::PlannedStreams;
 use crate::streams::CommandStreams;
 use case_text::{
     Case, FinalItem, InitialItem, Invocation, Launch, Program, Script, Trouble, split_first_word,
 };
 use case_tries::Row;
-use std::alloc::Global;
+use std::alloc::{AllocError, Global};
 
 /// The arguments, files and peers of a program, and all expected results.
 #[derive(Drop)]
@@ -24,19 +24,14 @@ pub struct Plan<'b> {
 }
 
 impl<'b> Plan<'b> {
-    // Returns a plan with these arguments, streams and exit status, and an empty folder.
-    fn new(
-        alloc: Global,
-        script: &'b Script<'b>,
-        arguments: Vec<String>,
-        streams: PlannedStreams,
-    ) -> Plan<'b> {
+    // Returns a plan without arguments, for an empty folder.
+    fn new(alloc: Global, script: &'b Script<'b>) -> Plan<'b> {
         Plan {
             script,
-            arguments,
+            arguments: Vec::new(alloc),
             initial_items: Vec::new(alloc),
             final_items: Vec::new(alloc),
-            streams,
+            streams: PlannedStreams::new(alloc),
             steps: None,
             failing_step: None,
         }
@@ -50,10 +45,12 @@ impl<'b> Plan<'b> {
         arguments: Vec<String>,
         is_valid_usage: bool,
     ) -> Result<Plan<'b>, Trouble> {
-        match PlannedStreams::of_usage(alloc, is_valid_usage) {
-            Ok(streams) => Ok(Plan::new(alloc, script, arguments, streams)),
-            Err(trouble) => Err(trouble),
+        let mut plan = Plan::new(alloc, script);
+        plan.arguments = arguments;
+        if !is_valid_usage {
+            plan.streams.expect_wrong_usage()?;
         }
+        Ok(plan)
     }
 
     /// Returns the plan for the command of a row, with a file that holds the row's repository.
@@ -63,11 +60,16 @@ impl<'b> Plan<'b> {
         case: &'b Case<'b>,
         row: &Row<'b>,
     ) -> Result<Plan<'b>, Trouble> {
-        let arguments = command_arguments(alloc, row.command)?;
-        let streams = PlannedStreams::of_row(alloc, row)?;
-        let mut plan = Plan::new(alloc, script, arguments, streams);
-        plan.add_files_of(row.command, case.new_file)?;
+        let mut plan = Plan::new(alloc, script);
+        plan.add_row(alloc, case, row)?;
         Ok(plan)
+    }
+
+    // Adds the arguments, messages and files of a row.
+    fn add_row(&mut self, alloc: Global, case: &'b Case<'b>, row: &Row<'b>) -> Result<(), Trouble> {
+        add_command(alloc, row.command, &mut self.arguments)?;
+        self.streams.expect_row(row)?;
+        self.add_files_of(row.command, case.new_file)
     }
 
     // Adds the files that a command reads, and the file that the command writes, if any.
@@ -119,20 +121,23 @@ impl<'b> Plan<'b> {
         case: &Case<'_>,
         arguments: &'b str,
     ) -> Result<Plan<'b>, Trouble> {
-        let streams = PlannedStreams::of_transcript(
-            alloc,
-            case.transcript.as_slice(),
-            &[],
-            CommandStreams::of_command("pair"),
-        )?;
-        let words = program_arguments(alloc, "gitv2 pair", arguments)?;
-        let mut plan = Plan::new(alloc, script, words, streams);
-        plan.add_pair(arguments)?;
+        let mut plan = Plan::new(alloc, script);
+        plan.add_pair(alloc, case, arguments)?;
         Ok(plan)
     }
 
-    // Adds the files of both repositories that the arguments name.
-    fn add_pair(&mut self, arguments: &'b str) -> Result<(), Trouble> {
+    // Adds the arguments, the messages, and the files of both repositories.
+    fn add_pair(
+        &mut self,
+        alloc: Global,
+        case: &Case<'_>,
+        arguments: &'b str,
+    ) -> Result<(), Trouble> {
+        push_arguments(alloc, "gitv2 pair", &mut self.arguments)?;
+        push_arguments(alloc, arguments, &mut self.arguments)?;
+        let streams = CommandStreams::of_command("pair");
+        self.streams
+            .expect_transcript(case.transcript.as_slice(), &[], streams)?;
         let (server, rest) = split_first_word(arguments);
         let (client, _) = split_first_word(rest);
         self.add_file(server)?;
@@ -146,35 +151,40 @@ impl<'b> Plan<'b> {
         case: &Case<'_>,
         launch: &Launch<'b>,
     ) -> Result<Plan<'b>, Trouble> {
-        let mut streams = PlannedStreams::of_transcript(
-            alloc,
-            case.transcript.as_slice(),
-            launch.connection_starts.as_slice(),
-            CommandStreams::of_command(launch.arguments),
-        )?;
-        streams.override_status(launch.status);
-        let arguments = program_arguments(alloc, "gitv2", launch.arguments)?;
-        let mut plan = Plan::new(alloc, script, arguments, streams);
-        plan.add_launch(launch)?;
+        let mut plan = Plan::new(alloc, script);
+        plan.steps = launch.steps;
+        plan.failing_step = launch.failing_step;
+        plan.add_launch(alloc, case, launch)?;
         Ok(plan)
     }
 
-    // Adds the files of a launch and its expected operations.
-    fn add_launch(&mut self, launch: &Launch<'b>) -> Result<(), Trouble> {
-        self.steps = launch.steps;
-        self.failing_step = launch.failing_step;
+    // Adds the arguments, messages and files of a launch.
+    fn add_launch(
+        &mut self,
+        alloc: Global,
+        case: &Case<'_>,
+        launch: &Launch<'b>,
+    ) -> Result<(), Trouble> {
+        push_arguments(alloc, "gitv2", &mut self.arguments)?;
+        push_arguments(alloc, launch.arguments, &mut self.arguments)?;
+        self.expect_streams(case, launch)?;
         self.initial_items
             .extend_from_slice(launch.initial_items.as_slice())?;
         self.final_items
             .extend_from_slice(launch.final_items.as_slice())
             .map_err(Trouble::from)
     }
-}
 
-// Returns the arguments of both texts, which are separated by spaces.
-fn program_arguments(alloc: Global, first: &str, others: &str) -> Result<Vec<String>, Trouble> {
-    let mut arguments = Vec::new(alloc);
-    push_arguments(alloc, first, &mut arguments)?;
-    push_arguments(alloc, others, &mut arguments)?;
-    Ok(arguments)
+    // Adds the messages of a launch, and its exit status.
+    fn expect_streams(&mut self, case: &Case<'_>, launch: &Launch<'b>) -> Result<(), AllocError> {
+        self.streams.expect_transcript(
+            case.transcript.as_slice(),
+            launch.connection_starts.as_slice(),
+            CommandStreams::of_command(launch.arguments),
+        )?;
+        if launch.status.is_some() {
+            self.streams.status = launch.status;
+        }
+        Ok(())
+    }
 }

@@ -2,9 +2,9 @@
 
 use crate::peers::Exchange;
 use crate::streams::{CommandStreams, Stream};
-use case_text::{Program, Speaker, TranscriptEntry, Trouble};
+use case_text::{Program, Speaker, TranscriptEntry};
 use case_tries::Row;
-use std::alloc::Global;
+use std::alloc::{AllocError, Global};
 
 /// The line that a listening server prints.
 const LISTENING_LINE: &[u8] = b"listening PORT\n";
@@ -12,8 +12,6 @@ const LISTENING_LINE: &[u8] = b"listening PORT\n";
 /// The exit status of the program if its arguments do not match the usage. The program then prints
 /// the line `USAGE_LINE`.
 pub(crate) const WRONG_USAGE_STATUS: u8 = 2;
-
-const NO_BYTES: &[u8] = b"";
 
 const USAGE_LINE: &[u8] = b"gitv2: usage\n";
 
@@ -26,103 +24,96 @@ pub(crate) struct PlannedStreams {
     /// The expected standard output. The word `PORT` is replaced by the port at which the program
     /// listens.
     pub(crate) output: Vec<u8>,
-    /// The expected standard error, if it is known.
-    pub(crate) errors: Option<Vec<u8>>,
-    /// The expected exit status. `None` accepts any status except `WRONG_USAGE_STATUS`.
+    /// The expected standard error, if the exit status is known.
+    pub(crate) errors: Vec<u8>,
+    /// The expected exit status. `None` accepts any standard error, and any status except
+    /// `WRONG_USAGE_STATUS`.
     pub(crate) status: Option<u8>,
 }
 
 impl PlannedStreams {
-    fn new(alloc: Global) -> PlannedStreams {
+    /// Returns the streams of a program that reads and writes nothing.
+    pub(crate) fn new(alloc: Global) -> PlannedStreams {
         PlannedStreams {
             input: Vec::new(alloc),
             exchanges: Vec::new(alloc),
             output: Vec::new(alloc),
-            errors: None,
+            errors: Vec::new(alloc),
             status: None,
         }
     }
 
-    /// Returns the streams of a program that only tests whether its arguments match the usage.
-    pub(crate) fn of_usage(alloc: Global, is_valid_usage: bool) -> Result<PlannedStreams, Trouble> {
-        let mut streams = PlannedStreams::new(alloc);
-        if !is_valid_usage {
-            streams.errors = Some(Vec::from_slice(alloc, USAGE_LINE)?);
-            streams.status = Some(WRONG_USAGE_STATUS);
-        }
-        Ok(streams)
+    /// Expects the program to report that its arguments do not match the usage.
+    pub(crate) fn expect_wrong_usage(&mut self) -> Result<(), AllocError> {
+        self.status = Some(WRONG_USAGE_STATUS);
+        self.errors.extend_from_slice(USAGE_LINE)
     }
 
-    /// Returns the streams with the messages of a row, over standard streams or over a socket.
-    pub(crate) fn of_row(alloc: Global, row: &Row<'_>) -> Result<PlannedStreams, Trouble> {
-        let mut streams = PlannedStreams::new(alloc);
-        let mut errors = Vec::new(alloc);
-        streams.expect_conversation(alloc, row, &mut errors)?;
-        streams.errors = Some(errors);
-        streams.status = Some(row_status(row));
-        Ok(streams)
-    }
-
-    // Adds the messages of a row, and appends the expected standard error to `errors`.
-    fn expect_conversation(
-        &mut self,
-        alloc: Global,
-        row: &Row<'_>,
-        errors: &mut Vec<u8>,
-    ) -> Result<(), Trouble> {
+    /// Adds the messages of a row, over standard streams or over a socket.
+    pub(crate) fn expect_row(&mut self, row: &Row<'_>) -> Result<(), AllocError> {
         let conversation = &row.conversation;
-        let report = if row.command.program.has_report() {
-            conversation.report.as_slice()
-        } else {
-            NO_BYTES
-        };
+        self.status = Some(row_status(row));
         if row.command.has_hello() {
-            self.expect_exchange(alloc, row)?;
-            self.output.extend_from_slice(report)?;
+            self.expect_exchange(row)?;
         } else {
-            self.input.extend_from_slice(conversation.input.as_slice())?;
-            self.output
-                .extend_from_slice(conversation.output.as_slice())?;
-            errors.extend_from_slice(report)?;
+            self.expect_messages(row)?;
         }
-        errors.extend_from_slice(conversation.errors.as_slice())?;
+        self.expect_report(row)?;
+        self.errors
+            .extend_from_slice(conversation.errors.as_slice())
+    }
+
+    // Adds the messages of a row, over a socket. A client that sends no message opens no socket. A
+    // server prints its port.
+    fn expect_exchange(&mut self, row: &Row<'_>) -> Result<(), AllocError> {
         if row.command.program == Program::Serve {
             self.output.extend_from_slice(LISTENING_LINE)?;
-        }
-        Ok(())
-    }
-
-    // Adds the messages of a row, over a socket. A client that sends no message opens no socket.
-    fn expect_exchange(&mut self, alloc: Global, row: &Row<'_>) -> Result<(), Trouble> {
-        let conversation = &row.conversation;
-        if row.command.program != Program::Serve && conversation.output.is_empty() {
+        } else if row.conversation.output.is_empty() {
             return Ok(());
         }
-        let exchange = Exchange::of_bytes(
-            alloc,
-            conversation.input.as_slice(),
-            conversation.output.as_slice(),
-        )?;
-        self.exchanges.push(exchange).map_err(Trouble::from)
+        self.begin_exchange()?;
+        self.expect_messages(row)
     }
 
-    /// Returns the streams with these messages, over standard streams or over one connection after
-    /// another.
-    pub(crate) fn of_transcript(
-        alloc: Global,
+    // Adds the messages of a row to the last connection, or to the standard streams if there is no
+    // connection.
+    fn expect_messages(&mut self, row: &Row<'_>) -> Result<(), AllocError> {
+        self.expect_bytes(row.conversation.input.as_slice(), Stream::PeerInput)?;
+        self.expect_bytes(row.conversation.output.as_slice(), Stream::PeerOutput)
+    }
+
+    // Adds the report of a row, for programs with a report.
+    fn expect_report(&mut self, row: &Row<'_>) -> Result<(), AllocError> {
+        if !row.command.program.has_report() {
+            return Ok(());
+        }
+        let stream = if row.command.has_hello() {
+            Stream::StandardOutput
+        } else {
+            Stream::StandardError
+        };
+        self.expect_bytes(row.conversation.report.as_slice(), stream)
+    }
+
+    // Adds a connection.
+    fn begin_exchange(&mut self) -> Result<(), AllocError> {
+        let exchange = Exchange::new(*self.output.allocator());
+        self.exchanges.push(exchange).map_err(AllocError::from)
+    }
+
+    /// Adds these messages, over standard streams or over one connection after another.
+    pub(crate) fn expect_transcript(
+        &mut self,
         transcript: &[TranscriptEntry],
         connection_starts: &[usize],
         command_streams: CommandStreams,
-    ) -> Result<PlannedStreams, Trouble> {
-        let mut streams = PlannedStreams::new(alloc);
-        let mut errors = Vec::new(alloc);
+    ) -> Result<(), AllocError> {
+        self.status = Some(u8::from(has_fault(transcript)));
         for (index, entry) in transcript.iter().enumerate() {
             let starts_connection = connection_starts.contains(&index);
-            streams.expect_entry(entry, starts_connection, command_streams, &mut errors)?;
+            self.expect_entry(entry, starts_connection, command_streams)?;
         }
-        streams.status = Some(u8::from(has_fault(transcript)));
-        streams.errors = Some(errors);
-        Ok(streams)
+        Ok(())
     }
 
     // Adds the bytes of a message, which may be the first message of a connection.
@@ -131,43 +122,30 @@ impl PlannedStreams {
         entry: &TranscriptEntry,
         starts_connection: bool,
         command_streams: CommandStreams,
-        errors: &mut Vec<u8>,
-    ) -> Result<(), Trouble> {
+    ) -> Result<(), AllocError> {
         if command_streams.is_remote
             && entry.speaker.is_peer()
             && (starts_connection || self.exchanges.is_empty())
         {
-            let alloc = *errors.allocator();
-            self.exchanges.push(Exchange::new(alloc))?;
+            self.begin_exchange()?;
         }
         let stream = command_streams.stream_of(entry.speaker);
-        self.expect_bytes(entry.bytes.as_slice(), stream, errors)
+        self.expect_bytes(entry.bytes.as_slice(), stream)
     }
 
     // Adds bytes to the input or to the expected output of this stream.
-    fn expect_bytes(
-        &mut self,
-        bytes: &[u8],
-        stream: Stream,
-        errors: &mut Vec<u8>,
-    ) -> Result<(), Trouble> {
-        let added = match (stream, self.exchanges.last_mut()) {
-            (Stream::PeerInput, Some(exchange)) => exchange.sent_bytes.extend_from_slice(bytes),
-            (Stream::PeerOutput, Some(exchange)) => {
-                exchange.expected_bytes.extend_from_slice(bytes)
-            }
-            (Stream::PeerInput, None) => self.input.extend_from_slice(bytes),
-            (Stream::PeerOutput, None) => self.output.extend_from_slice(bytes),
-            (Stream::StandardOutput, _) => self.output.extend_from_slice(bytes),
-            (Stream::StandardError, _) => errors.extend_from_slice(bytes),
-        };
-        added.map_err(Trouble::from)
+    fn expect_bytes(&mut self, bytes: &[u8], stream: Stream) -> Result<(), AllocError> {
+        self.bytes_of(stream).extend_from_slice(bytes)
     }
 
-    /// Replaces the expected exit status, if a status is given.
-    pub(crate) fn override_status(&mut self, status: Option<u8>) {
-        if status.is_some() {
-            self.status = status;
+    // Returns the bytes of this stream. The peer is the one that connected last, if any.
+    fn bytes_of(&mut self, stream: Stream) -> &mut Vec<u8> {
+        match (stream, self.exchanges.last_mut()) {
+            (Stream::PeerInput, Some(exchange)) => &mut exchange.sent_bytes,
+            (Stream::PeerOutput, Some(exchange)) => &mut exchange.expected_bytes,
+            (Stream::PeerInput, None) => &mut self.input,
+            (Stream::PeerOutput, None) | (Stream::StandardOutput, _) => &mut self.output,
+            (Stream::StandardError, _) => &mut self.errors,
         }
     }
 }

@@ -12,7 +12,7 @@ use crate::planned_streams::{PlannedStreams, WRONG_USAGE_STATUS};
 use crate::system::System;
 use case_text::{InitialItem, Trouble};
 use gprogram::run_gitv2;
-use std::alloc::Global;
+use std::alloc::{AllocError, Global};
 use std::env;
 use std::rt::{Env, Files};
 
@@ -29,8 +29,7 @@ pub fn launch<R: System>(rt: &R, plan: &Plan<'_>) -> Result<Option<String>, Trou
     enter_folder(rt)?;
     let difference = launch_in_folder(rt, plan);
     restore_permissions(rt, plan.initial_items.as_slice());
-    leave_folder(rt)?;
-    difference
+    leave_folder(rt).and(difference)
 }
 
 fn launch_in_folder<R: System>(rt: &R, plan: &Plan<'_>) -> Result<Option<String>, Trouble> {
@@ -40,9 +39,9 @@ fn launch_in_folder<R: System>(rt: &R, plan: &Plan<'_>) -> Result<Option<String>
     }
     create_items(rt, plan.script, initial_items)?;
     let inode_numbers = InodeNumbers::of_kept_files(rt, plan.final_items.as_slice())?;
-    match run_and_compare(rt, plan)? {
-        None => compare_files(rt, plan, &inode_numbers),
-        difference => Ok(difference),
+    match run_and_compare(rt, plan) {
+        Ok(None) => compare_files(rt, plan, &inode_numbers),
+        difference => difference,
     }
 }
 
@@ -82,7 +81,7 @@ fn run_with_peers<R: System>(
     let runtime = LaunchRuntime::new(rt, alloc, plan, journal, peers);
     let mut errors = StandardError::new(alloc, journal);
     let status = run_gitv2(&runtime, &mut errors);
-    let output = runtime.written_bytes()?;
+    let output = runtime.into_output();
     let results = RunResults {
         status,
         output: output.as_slice(),
@@ -106,40 +105,46 @@ struct RunResults<'t> {
 impl RunResults<'_> {
     // Returns a description of the results if they differ from the plan, or `None` otherwise.
     fn difference(&self, alloc: Global, plan: &Plan<'_>) -> Result<Option<String>, Trouble> {
-        let steps = self.journal.text()?;
-        if self.are_expected(alloc, plan, steps.as_str())? {
-            return Ok(None);
+        if self.are_expected(alloc, plan)? {
+            Ok(None)
+        } else {
+            Ok(Some(self.describe(alloc)?))
         }
-        let status = self.status;
-        let printed = printable_text(self.errors);
-        let output = printable_text(self.output);
-        Ok(Some(format!(in alloc; "status {status}; {steps}; {output}; {printed}")?))
     }
 
-    fn are_expected(&self, alloc: Global, plan: &Plan<'_>, steps: &str) -> Result<bool, Trouble> {
+    fn describe(&self, alloc: Global) -> Result<String, AllocError> {
+        let status = self.status;
+        let steps = self.journal.text()?;
+        let output = printable_text(self.output);
+        let printed = printable_text(self.errors);
+        format!(in alloc; "status {status}; {steps}; {output}; {printed}")
+    }
+
+    fn are_expected(&self, alloc: Global, plan: &Plan<'_>) -> Result<bool, AllocError> {
         Ok(
-            self.have_expected_bytes(alloc, &plan.streams)?
-                && has_expected_steps(plan.steps, steps)
+            self.have_expected_status(&plan.streams)
+                && self.have_expected_output(alloc, plan.streams.output.as_slice())?
+                && self.journal.has_expected_steps(plan.steps)
                 && self.peers.have_received_expected(alloc),
         )
     }
 
-    // Returns whether the status, the output and the errors are as expected.
-    fn have_expected_bytes(
-        &self,
-        alloc: Global,
-        streams: &PlannedStreams,
-    ) -> Result<bool, Trouble> {
-        Ok(
-            has_expected_status(streams.status, self.status)
-                && is_expected_output(
-                    alloc,
-                    streams.output.as_slice(),
-                    self.peers.program_port(),
-                    self.output,
-                )?
-                && has_expected_errors(streams, self.errors),
-        )
+    // Returns whether the status and the errors are as expected.
+    fn have_expected_status(&self, streams: &PlannedStreams) -> bool {
+        match streams.status {
+            Some(status) => self.status == status && self.errors == streams.errors.as_slice(),
+            None => self.status != WRONG_USAGE_STATUS,
+        }
+    }
+
+    // Returns whether the output is as expected. The word `PORT` stands for the program's port.
+    fn have_expected_output(&self, alloc: Global, expected: &[u8]) -> Result<bool, AllocError> {
+        let Some((before, after)) = split_at_port(expected) else {
+            return Ok(expected == self.output);
+        };
+        let port = self.peers.program_port();
+        let line = format!(in alloc; "{before}{port}{after}")?;
+        Ok(line.as_bytes() == self.output)
     }
 }
 
@@ -150,45 +155,9 @@ fn printable_text(bytes: &[u8]) -> &str {
     }
 }
 
-fn has_expected_status(expected: Option<u8>, status: u8) -> bool {
-    match expected {
-        Some(expected) => status == expected,
-        None => status != WRONG_USAGE_STATUS,
-    }
-}
-
-// Returns whether `output` is the expected standard output of a program that listens at the port.
-fn is_expected_output(
-    alloc: Global,
-    expected: &[u8],
-    port: u16,
-    output: &[u8],
-) -> Result<bool, Trouble> {
-    let parts = match std::str::from_utf8(expected) {
-        Ok(text) => text.split_once(PORT_WORD),
-        Err(_) => None,
-    };
-    match parts {
-        Some((before, after)) => {
-            let line = format!(in alloc; "{before}{port}{after}")?;
-            Ok(line.as_bytes() == output)
-        }
-        None => Ok(expected == output),
-    }
-}
-
-fn has_expected_errors(streams: &PlannedStreams, errors: &[u8]) -> bool {
-    match &streams.errors {
-        Some(expected) => expected.as_slice() == errors,
-        None => true,
-    }
-}
-
-fn has_expected_steps(expected: Option<&str>, steps: &str) -> bool {
-    match expected {
-        Some(expected) => expected == steps,
-        None => true,
-    }
+// Returns the text before and after the word for the port, or `None` if the text has no such word.
+fn split_at_port(expected: &[u8]) -> Option<(&str, &str)> {
+    std::str::from_utf8(expected).ok()?.split_once(PORT_WORD)
 }
 
 // Returns a description that names the first file that differs from the plan, if any.
@@ -208,10 +177,10 @@ fn first_different_file<'b, R: AllocGlobal + Files>(
     plan: &Plan<'b>,
     inode_numbers: &InodeNumbers<'b>,
 ) -> Result<Option<&'b str>, Trouble> {
-    let mut difference = inode_numbers.first_changed(rt);
-    if difference.is_none() {
-        difference = first_wrong_mode(rt, plan.final_items.as_slice());
-    }
+    let difference = match inode_numbers.first_changed(rt) {
+        None => first_wrong_mode(rt, plan.final_items.as_slice()),
+        changed => changed,
+    };
     restore_permissions(rt, plan.initial_items.as_slice());
     match difference {
         None => first_wrong_file(rt, plan),

@@ -3,7 +3,7 @@
 use case_text::Speaker;
 
 /// A stream of the program.
-#[derive(Clone, Copy, PartialEq, Eq)]
+#[derive(Clone, Copy)]
 pub(crate) enum Stream {
     /// The input from the peer: standard input, or a socket.
     PeerInput,
