@@ -80,18 +80,22 @@ pub enum InputStop {
 /// Returns whether the run had exactly the row's expected results, and flushed its output.
 pub fn is_as_expected(row: &Row<'_>, results: &RunResults) -> bool {
     (results.status == 1) != row.conversation.errors.is_empty()
-        && wrote_exactly(
-            &results.output,
-            row.conversation.output.as_slice(),
-            NO_BYTES,
-        )
+        && has_expected_output_and_file(row, results)
         && has_expected_report(row, results)
         && wrote_exactly(
             &results.errors,
             row.conversation.errors.as_slice(),
             NO_BYTES,
         )
-        && has_expected_file(results, row.new_file)
+}
+
+// Returns whether the run wrote exactly the row's expected output and its expected file.
+fn has_expected_output_and_file(row: &Row<'_>, results: &RunResults) -> bool {
+    wrote_exactly(
+        &results.output,
+        row.conversation.output.as_slice(),
+        NO_BYTES,
+    ) && has_expected_file(results, row.new_file)
 }
 
 // Returns whether the run wrote exactly the row's expected report, or nothing for programs without
@@ -113,24 +117,14 @@ pub fn is_as_expected_after_input_stop(
     len: usize,
     input_stop: InputStop,
 ) -> Result<bool, Trouble> {
-    let Some(packet_start) = row.conversation.packet_at(len) else {
+    let Some((packet_start, output_before)) = packet_at(row, len) else {
         return Ok(false);
     };
-    let Some(output_before) = row
-        .conversation
-        .output
-        .as_slice()
-        .get(..packet_start.output_before)
-    else {
-        return Ok(false);
-    };
-    let program = row.command.program;
     let is_between = packet_start.start == len;
-    let is_hello = row.command.has_hello() && packet_start.start == 0;
-    let may_end = program.reads_client_messages() && packet_start.frame == 0 && !is_hello;
-    if input_stop == InputStop::End && is_between && may_end {
+    if input_stop == InputStop::End && is_between && may_end_before(row.command, packet_start) {
         return Ok(has_succeeded_with(results, output_before));
     }
+    let program = row.command.program;
     let (fault, refusal) = expected_fault_after_stop(input_stop, is_between);
     let sent_error = if program.is_server() {
         refusal
@@ -139,6 +133,20 @@ pub fn is_as_expected_after_input_stop(
     };
     let line = fault_line(alloc, program, fault, packet_start)?;
     Ok(has_failed_with(results, output_before, sent_error, line.as_bytes()))
+}
+
+// Returns the packet at this offset of the input, and the expected output before the packet's
+// message. Returns `None` if there is no such packet.
+fn packet_at<'b>(row: &'b Row<'_>, offset: usize) -> Option<(PacketStart, &'b [u8])> {
+    let packet_start = row.conversation.packet_at(offset)?;
+    let output = row.conversation.output.as_slice();
+    Some((packet_start, output.get(..packet_start.output_before)?))
+}
+
+// Returns whether the client may end the connection before this packet.
+fn may_end_before(command: Invocation<'_>, packet_start: PacketStart) -> bool {
+    let is_hello = command.has_hello() && packet_start.start == 0;
+    command.program.reads_client_messages() && packet_start.frame == 0 && !is_hello
 }
 
 // Returns the expected fault and the expected error for the client if the input stops. The input
@@ -157,8 +165,7 @@ fn expected_fault_after_stop(
 // Returns whether the run succeeded with exactly this output.
 fn has_succeeded_with(results: &RunResults, written: &[u8]) -> bool {
     results.status == 0
-        && wrote_exactly(&results.output, written, NO_BYTES)
-        && printed_exactly(results, NO_BYTES)
+        && wrote_and_printed(results, written, NO_BYTES, NO_BYTES)
         && results.new_file.is_none()
 }
 
@@ -171,8 +178,7 @@ fn has_failed_with(
     printed_line: &[u8],
 ) -> bool {
     results.status == 1
-        && wrote_exactly(&results.output, written, sent_error)
-        && printed_exactly(results, printed_line)
+        && wrote_and_printed(results, written, sent_error, printed_line)
         && results.new_file.is_none()
 }
 
@@ -207,34 +213,24 @@ pub fn is_as_expected_after_failed_write(row: &Row<'_>, results: &RunResults) ->
 /// otherwise had all expected results.
 pub(crate) fn is_as_expected_after_failed_report(row: &Row<'_>, results: &RunResults) -> bool {
     results.status == 1
-        && wrote_exactly(
-            &results.output,
-            row.conversation.output.as_slice(),
-            NO_BYTES,
-        )
+        && has_expected_output_and_file(row, results)
         && row
             .conversation
             .report
             .starts_with(results.report.written_bytes())
         && wrote_exactly(&results.errors, WRITE_FAULT_LINE, NO_BYTES)
-        && has_expected_file(results, row.new_file)
 }
 
 /// Returns whether the run had all expected results, except that it printed only a prefix of the
 /// fault line.
 pub(crate) fn is_as_expected_after_failed_stderr(row: &Row<'_>, results: &RunResults) -> bool {
     results.status == 1
-        && wrote_exactly(
-            &results.output,
-            row.conversation.output.as_slice(),
-            NO_BYTES,
-        )
+        && has_expected_output_and_file(row, results)
         && has_expected_report(row, results)
         && row
             .conversation
             .errors
             .starts_with(results.errors.written_bytes())
-        && has_expected_file(results, row.new_file)
 }
 
 /// Returns whether the run succeeded, or ended as expected after a refused allocation. A run that
@@ -332,7 +328,7 @@ pub(crate) fn is_as_table_lists(
     input: &[u8],
     change: Change,
 ) -> Result<bool, Trouble> {
-    let Some(output_before) = output_before_request(row) else {
+    let Some((_, output_before)) = packet_at(row, 0) else {
         return Ok(false);
     };
     for table_line in row.table {
@@ -343,16 +339,6 @@ pub(crate) fn is_as_table_lists(
     Ok(false)
 }
 
-// Returns the output that is expected before the program reads the request, or `None` if the input
-// has no packets.
-fn output_before_request<'b>(row: &'b Row<'_>) -> Option<&'b [u8]> {
-    let packet_start = row.conversation.packet_at(0)?;
-    row.conversation
-        .output
-        .as_slice()
-        .get(..packet_start.output_before)
-}
-
 fn has_table_outcome(
     alloc: Global,
     row: &Row<'_>,
@@ -360,25 +346,42 @@ fn has_table_outcome(
     (output_before, input): (&[u8], &[u8]),
     table_line: &TableLine<'_>,
 ) -> Result<bool, Trouble> {
-    let expected = &table_line.expected;
-    match expected.kind {
+    match table_line.expected.kind {
         OutcomeKind::Unchanged => Ok(is_as_expected(row, results)),
-        OutcomeKind::Output => Ok(
-            results.status == 0
-                && wrote_exactly(&results.output, output_before, expected.output.as_slice())
-                && printed_exactly(results, NO_BYTES),
-        ),
-        OutcomeKind::ErrorPacket => {
-            let text = table_line.fill_placeholder(alloc, expected.error_text, input)?;
-            let fault = table_line.fill_placeholder(alloc, expected.fault, input)?;
-            let packet = error_packet(alloc, text.as_slice())?;
-            Ok(
-                results.status == 1
-                    && wrote_exactly(&results.output, output_before, packet.as_slice())
-                    && fault_text(results.errors.written_bytes()) == Some(fault.as_slice()),
-            )
+        OutcomeKind::Output => {
+            let output = table_line.expected.output.as_slice();
+            Ok(results.status == 0 && wrote_and_printed(results, output_before, output, NO_BYTES))
         }
+        OutcomeKind::ErrorPacket => has_refused(alloc, results, (output_before, input), table_line),
     }
+}
+
+// Returns whether the run failed with the fault of the table line, after it sent the error packet.
+fn has_refused(
+    alloc: Global,
+    results: &RunResults,
+    (output_before, input): (&[u8], &[u8]),
+    table_line: &TableLine<'_>,
+) -> Result<bool, Trouble> {
+    let has_sent_error = has_sent_error(alloc, results, (output_before, input), table_line)?;
+    let fault = table_line.fill_placeholder(alloc, table_line.expected.fault, input)?;
+    Ok(
+        results.status == 1
+            && has_sent_error
+            && fault_text(results.errors.written_bytes()) == Some(fault.as_slice()),
+    )
+}
+
+// Returns whether the output ends with the error packet of the table line.
+fn has_sent_error(
+    alloc: Global,
+    results: &RunResults,
+    (output_before, input): (&[u8], &[u8]),
+    table_line: &TableLine<'_>,
+) -> Result<bool, Trouble> {
+    let text = table_line.fill_placeholder(alloc, table_line.expected.error_text, input)?;
+    let packet = error_packet(alloc, text.as_slice())?;
+    Ok(wrote_exactly(&results.output, output_before, packet.as_slice()))
 }
 
 /// Returns whether a run may report the fault with this number after a refused allocation.
@@ -433,14 +436,21 @@ fn has_advertisement(row: &Row<'_>, results: &RunResults) -> bool {
 /// may have new objects, but the refs must be unchanged.
 pub fn keeps_repository(alloc: Global, row: &Row<'_>, results: &RunResults) -> bool {
     match (&results.final_repository_text, &results.new_file) {
-        (Some(state), Some(text)) => {
-            state.as_slice() == text.as_slice() && keeps_objects(alloc, row, text.as_slice())
-        }
-        (Some(state), None) => {
-            has_same_refs(row, state.as_slice()) && keeps_objects(alloc, row, state.as_slice())
+        (Some(state), new_file) => {
+            is_consistent_state(row, state.as_slice(), new_file)
+                && keeps_objects(alloc, row, state.as_slice())
         }
         (None, Some(text)) => keeps_objects(alloc, row, text.as_slice()),
         (None, None) => true,
+    }
+}
+
+// Returns whether a final state in memory equals the new text of the file. Without a new text, the
+// state must have the refs of the row's text.
+fn is_consistent_state(row: &Row<'_>, state: &[u8], new_file: &Option<Vec<u8>>) -> bool {
+    match new_file {
+        Some(text) => state == text.as_slice(),
+        None => has_same_refs(row, state),
     }
 }
 
@@ -491,9 +501,11 @@ fn wrote_exactly(output: &Writer, first: &[u8], last: &[u8]) -> bool {
     output.is_flushed() && output.written_bytes().strip_prefix(first) == Some(last)
 }
 
-// Returns whether the run printed exactly `errors`, and wrote no report.
-fn printed_exactly(results: &RunResults, errors: &[u8]) -> bool {
-    wrote_exactly(&results.report, NO_BYTES, NO_BYTES)
+// Returns whether the output consists of `first` and `last`, and the run printed exactly `errors`
+// and wrote no report.
+fn wrote_and_printed(results: &RunResults, first: &[u8], last: &[u8], errors: &[u8]) -> bool {
+    wrote_exactly(&results.output, first, last)
+        && wrote_exactly(&results.report, NO_BYTES, NO_BYTES)
         && wrote_exactly(&results.errors, errors, NO_BYTES)
 }
 

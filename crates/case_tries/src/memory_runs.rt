@@ -186,33 +186,29 @@ fn run_over_std_devices<A: Allocator + Copy>(
         Reader::new(run.input, parameters.read_limits, run.indexer_check),
         parameters.read_limits,
     );
-    let mut output = StdAdapter::new(
-        Writer::new(run.alloc, parameters.write_limits),
-        parameters.write_limits,
+    let mut output = std_writer(run.alloc, parameters.write_limits);
+    let mut report = std_writer(run.alloc, parameters.report_limits);
+    let mut errors = std_writer(run.alloc, parameters.stderr_limits);
+    let run_outcome = run_command(
+        run,
+        &mut Devices {
+            input: FromRead::new(&mut input),
+            output: ToWrite::new(&mut output),
+            report: ToWrite::new(&mut report),
+            errors: ToWrite::new(&mut errors),
+        },
     );
-    let mut report = StdAdapter::new(
-        Writer::new(run.alloc, parameters.report_limits),
-        parameters.report_limits,
-    );
-    let mut errors = StdAdapter::new(
-        Writer::new(run.alloc, parameters.stderr_limits),
-        parameters.stderr_limits,
-    );
-    let mut devices = Devices {
-        input: FromRead::new(&mut input),
-        output: ToWrite::new(&mut output),
-        report: ToWrite::new(&mut report),
-        errors: ToWrite::new(&mut errors),
-    };
-    let run_outcome = run_command(run, &mut devices)?;
-    drop(devices);
     let devices = Devices {
         input: input.into_inner(),
         output: output.into_inner(),
         report: report.into_inner(),
         errors: errors.into_inner(),
     };
-    Ok(results_of_run(run, run_outcome, devices))
+    Ok(results_of_run(run, run_outcome?, devices))
+}
+
+fn std_writer(alloc: Global, limits: DeviceLimits) -> StdAdapter<Writer> {
+    StdAdapter::new(Writer::new(alloc, limits), limits)
 }
 
 // Returns the result of a run, including the final state of its source and sinks.

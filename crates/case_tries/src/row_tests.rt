@@ -25,8 +25,30 @@ const MAX_RUNS: usize = 1_000_000;
 /// The masks of the eight bits of a byte.
 const BITS: [u8; 8] = [1, 2, 4, 8, 16, 32, 64, 128];
 
+// A series of runs, each of which fails later than the run before.
+#[derive(Drop)]
+enum Series<'s> {
+    // Each call to a source or sink fails in turn.
+    FailingCalls(Device),
+    // Each allocation is refused in turn.
+    Refusals(RefusalProgress),
+    // Each allocation of a simulation in a separate world is refused in turn.
+    WorldRefusals(WorldRun<'s>),
+    // Each write to standard error fails in turn, during a fetch into a file.
+    StoredFileStderr,
+    // Each allocation is refused in turn, during a fetch into a file.
+    StoredFileRefusals,
+}
+
+// A simulation that runs in a separate world, and its result with enough memory.
+#[derive(Clone, Copy)]
+struct WorldRun<'s> {
+    inputs: WorldInputs<'s>,
+    unrefused: &'s SimulationResults,
+}
+
 // The result of one run in a series of runs.
-#[derive(Clone, Copy, PartialEq, Eq)]
+#[derive(Clone, Copy)]
 enum SeriesStep {
     // The run was correct, and more runs follow.
     Continue,
@@ -49,7 +71,7 @@ impl SeriesStep {
 
 // The state of a series of runs. Each run refuses the allocation after the one that the previous
 // run refused.
-#[derive(Clone, Copy)]
+#[derive(Drop)]
 struct RefusalProgress {
     // The number of faults in the row's list that the runs so far have printed.
     faults_seen: usize,
@@ -242,17 +264,33 @@ impl<'a, 'b> RowTest<'a, 'b> {
         Ok(failed_run)
     }
 
-    // Tests the row while each call to this source or sink fails in turn. Each call transfers at
-    // most one byte.
-    fn test_failing_calls(&mut self, device: Device) -> Result<Option<usize>, Trouble> {
-        for call in 1..MAX_RUNS {
-            match self.test_failing_call(device, call)? {
+    // Tests the row with each run of a series.
+    fn test_series(&mut self, series: Series<'_>) -> Result<Option<usize>, Trouble> {
+        let mut series = series;
+        for number in 1..MAX_RUNS {
+            match self.test_step(&mut series, number)? {
                 SeriesStep::Continue => {}
                 SeriesStep::End => return Ok(None),
-                SeriesStep::Failure => return Ok(Some(call)),
+                SeriesStep::Failure => return Ok(Some(number)),
             }
         }
         Ok(Some(MAX_RUNS))
+    }
+
+    fn test_step(&mut self, series: &mut Series<'_>, number: usize) -> Result<SeriesStep, Trouble> {
+        match series {
+            Series::FailingCalls(device) => self.test_failing_call(*device, number),
+            Series::Refusals(progress) => self.test_refusal(number, progress),
+            Series::WorldRefusals(world_run) => self.test_world_refusal(*world_run, number),
+            Series::StoredFileStderr => self.test_failing_stderr(number),
+            Series::StoredFileRefusals => self.test_stored_file_refusal(number),
+        }
+    }
+
+    // Tests the row while each call to this source or sink fails in turn. Each call transfers at
+    // most one byte.
+    fn test_failing_calls(&mut self, device: Device) -> Result<Option<usize>, Trouble> {
+        self.test_series(Series::FailingCalls(device))
     }
 
     fn test_failing_call(&mut self, device: Device, call: usize) -> Result<SeriesStep, Trouble> {
@@ -304,15 +342,20 @@ impl<'a, 'b> RowTest<'a, 'b> {
             return Ok(None);
         }
         let results = self.fetch_into_file(StoredFetchParameters::UNLIMITED)?;
-        if !is_stored_as_expected(self.row, &results) {
-            return self.record_wrong_fetch(&results, 0);
+        let is_right = is_stored_as_expected(self.row, &results);
+        if !self.check_fetch(is_right, &results)? {
+            return Ok(Some(0));
         }
-        let mut failed_run = self.test_file_problems(results.calls())?;
+        self.test_stored_file_failures(results.calls())
+    }
+
+    fn test_stored_file_failures(&mut self, calls: usize) -> Result<Option<usize>, Trouble> {
+        let mut failed_run = self.test_file_problems(calls)?;
         if failed_run.is_none() && self.is_thorough() {
-            failed_run = self.test_failing_stderr()?;
+            failed_run = self.test_series(Series::StoredFileStderr)?;
         }
         if failed_run.is_none() && self.row.byte_changes == ByteChanges::EveryValue {
-            failed_run = self.test_stored_file_refusals()?;
+            failed_run = self.test_series(Series::StoredFileRefusals)?;
         }
         Ok(failed_run)
     }
@@ -325,69 +368,77 @@ impl<'a, 'b> RowTest<'a, 'b> {
         fetch_into_row_file(self.alloc, self.row, parameters)
     }
 
-    // Stores the bytes printed by a run that failed, and returns the number of the run.
-    fn record_wrong_fetch(
+    // Returns whether a fetch was correct. Otherwise stores the bytes that the fetch printed.
+    fn check_fetch(
         &mut self,
+        is_right: bool,
         results: &StoredFetchResults,
-        number: usize,
-    ) -> Result<Option<usize>, Trouble> {
-        self.printed.clear();
-        self.printed.extend_from_slice(results.printed_bytes())?;
-        Ok(Some(number))
+    ) -> Result<bool, Trouble> {
+        if !is_right {
+            self.printed.clear();
+            self.printed.extend_from_slice(results.printed_bytes())?;
+        }
+        Ok(is_right)
     }
 
     // Tests the row while another process holds the lock, and with a failure or a stop at each of
     // the first `calls` file operations.
     fn test_file_problems(&mut self, calls: usize) -> Result<Option<usize>, Trouble> {
         for call in 1..=calls {
-            let file_problems = [
-                FileProblem::LockedByOther,
-                FileProblem::FailedCall(call),
-                FileProblem::StopBefore(call),
-                FileProblem::StopAfter(call),
-            ];
-            for file_problem in file_problems {
-                let mut parameters = StoredFetchParameters::UNLIMITED;
-                parameters.file_problem = file_problem;
-                let results = self.fetch_into_file(parameters)?;
-                if !is_as_expected_after_problem(self.row, &results, file_problem, calls) {
-                    return self.record_wrong_fetch(&results, call);
-                }
+            if !self.is_right_with_problems_at(call, calls)? {
+                return Ok(Some(call));
             }
         }
         Ok(None)
     }
 
-    fn test_failing_stderr(&mut self) -> Result<Option<usize>, Trouble> {
-        for call in 1..MAX_RUNS {
-            let mut parameters = StoredFetchParameters::UNLIMITED;
-            parameters.stderr_limits = DeviceLimits::with_failing_call(call);
-            let results = self.fetch_into_file(parameters)?;
-            if !results.has_failed() {
-                return Ok(None);
-            }
-            if !is_as_expected_when_cut_short(self.row, &results) {
-                return self.record_wrong_fetch(&results, call);
+    fn is_right_with_problems_at(&mut self, call: usize, calls: usize) -> Result<bool, Trouble> {
+        let file_problems = [
+            FileProblem::LockedByOther,
+            FileProblem::FailedCall(call),
+            FileProblem::StopBefore(call),
+            FileProblem::StopAfter(call),
+        ];
+        for file_problem in &file_problems {
+            if !self.is_right_with_problem(*file_problem, calls)? {
+                return Ok(false);
             }
         }
-        Ok(Some(MAX_RUNS))
+        Ok(true)
     }
 
-    fn test_stored_file_refusals(&mut self) -> Result<Option<usize>, Trouble> {
-        for number in 1..MAX_RUNS {
-            let mut parameters = StoredFetchParameters::UNLIMITED;
-            parameters.refused_allocation = number as u64;
-            let results = self.fetch_into_file(parameters)?;
-            let is_right = is_stored_as_expected(self.row, &results)
-                || (results.was_refused() && is_as_expected_when_cut_short(self.row, &results));
-            if !is_right {
-                return self.record_wrong_fetch(&results, number);
-            }
-            if !results.was_refused() {
-                return Ok(None);
-            }
-        }
-        Ok(Some(MAX_RUNS))
+    fn is_right_with_problem(
+        &mut self,
+        file_problem: FileProblem,
+        calls: usize,
+    ) -> Result<bool, Trouble> {
+        let mut parameters = StoredFetchParameters::UNLIMITED;
+        parameters.file_problem = file_problem;
+        let results = self.fetch_into_file(parameters)?;
+        let is_right = is_as_expected_after_problem(self.row, &results, file_problem, calls);
+        self.check_fetch(is_right, &results)
+    }
+
+    // Tests a fetch into a file while the call to standard error with this number fails.
+    fn test_failing_stderr(&mut self, call: usize) -> Result<SeriesStep, Trouble> {
+        let mut parameters = StoredFetchParameters::UNLIMITED;
+        parameters.stderr_limits = DeviceLimits::with_failing_call(call);
+        let results = self.fetch_into_file(parameters)?;
+        let is_last = !results.has_failed();
+        let is_right = is_last || is_as_expected_when_cut_short(self.row, &results);
+        let is_right = self.check_fetch(is_right, &results)?;
+        Ok(SeriesStep::after(is_right, is_last))
+    }
+
+    // Tests a fetch into a file while the allocation with this number is refused.
+    fn test_stored_file_refusal(&mut self, number: usize) -> Result<SeriesStep, Trouble> {
+        let mut parameters = StoredFetchParameters::UNLIMITED;
+        parameters.refused_allocation = number as u64;
+        let results = self.fetch_into_file(parameters)?;
+        let is_right = is_stored_as_expected(self.row, &results)
+            || (results.was_refused() && is_as_expected_when_cut_short(self.row, &results));
+        let is_right = self.check_fetch(is_right, &results)?;
+        Ok(SeriesStep::after(is_right, !results.was_refused()))
     }
 
     // Tests the row with the input truncated after each of its bytes.
@@ -531,44 +582,32 @@ impl<'a, 'b> RowTest<'a, 'b> {
         }
         let row = self.row;
         let inputs = WorldInputs::for_command(row.command, row.repository_text);
-        let unrefused = run_with_refusal(self.alloc, inputs, 0)?;
-        self.test_world_refusals(inputs, &unrefused)
+        let unrefused = &run_with_refusal(self.alloc, inputs, 0)?;
+        self.test_series(Series::WorldRefusals(WorldRun { inputs, unrefused }))
     }
 
-    // Tests a simulation with each allocation refused. If memory runs out, the remaining events run
-    // with enough memory in the same world.
-    fn test_world_refusals(
+    // Runs a simulation with the allocation `number` refused. If memory runs out, the remaining
+    // events run with enough memory in the same world. The run is correct if its outcomes are
+    // consistent with the result with enough memory.
+    fn test_world_refusal(
         &mut self,
-        inputs: WorldInputs<'_>,
-        unrefused: &SimulationResults,
-    ) -> Result<Option<usize>, Trouble> {
-        for number in 1..MAX_RUNS {
-            self.runs = self.runs.saturating_add(1);
-            match simulate_with_refusal(self.alloc, inputs, number, unrefused)? {
-                SeriesStep::Continue => {}
-                SeriesStep::End => return Ok(None),
-                SeriesStep::Failure => return Ok(Some(number)),
-            }
-        }
-        Ok(Some(MAX_RUNS))
+        world_run: WorldRun<'_>,
+        number: usize,
+    ) -> Result<SeriesStep, Trouble> {
+        self.runs = self.runs.saturating_add(1);
+        let results = run_with_refusal(self.alloc, world_run.inputs, number as u64)?;
+        let is_right = results.is_consistent_with(world_run.unrefused);
+        Ok(SeriesStep::after(is_right, !results.was_refused))
     }
 
     // Tests the row with each allocation refused in turn. The out-of-memory faults that the row
     // lists must occur in the listed order. Once a run has run out of memory after a server loaded
     // its repository, no later run may run out of memory during the loading.
     fn test_refusals_in_turn(&mut self) -> Result<Option<usize>, Trouble> {
-        let mut progress = RefusalProgress {
+        self.test_series(Series::Refusals(RefusalProgress {
             faults_seen: 0,
             ran_out_after_load: false,
-        };
-        for number in 1..MAX_RUNS {
-            match self.test_refusal(number, &mut progress)? {
-                SeriesStep::Continue => {}
-                SeriesStep::End => return Ok(None),
-                SeriesStep::Failure => return Ok(Some(number)),
-            }
-        }
-        Ok(Some(MAX_RUNS))
+        }))
     }
 
     fn test_refusal(
@@ -636,19 +675,6 @@ impl<'a, 'b> RowTest<'a, 'b> {
 // Returns `number` if the run with this number failed, or `None` if the run was correct.
 fn failed_run_at(is_right: bool, number: usize) -> Option<usize> {
     if is_right { None } else { Some(number) }
-}
-
-// Runs a simulation with the allocation `number` refused. The run is correct if its outcomes are
-// consistent with `unrefused`, the result with enough memory.
-fn simulate_with_refusal(
-    alloc: Global,
-    inputs: WorldInputs<'_>,
-    number: usize,
-    unrefused: &SimulationResults,
-) -> Result<SeriesStep, Trouble> {
-    let results = run_with_refusal(alloc, inputs, number as u64)?;
-    let is_right = results.is_consistent_with(unrefused);
-    Ok(SeriesStep::after(is_right, !results.was_refused))
 }
 
 // Returns whether the text at index `index` of the list is `text`.
