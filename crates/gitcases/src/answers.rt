@@ -12,7 +12,7 @@ use gitobject::ObjectType;
 use gitobjects::{Found, ObjectFiles, ObjectReader, ObjectStore, StoreFault};
 use gitpack::{IndexedPack, ObjectVisitor, PackFileFault, index_pack};
 use gname::Oid;
-use std::alloc::{Allocator, Global};
+use std::alloc::{AllocError, Allocator, Global};
 use std::rt::Files;
 
 /// The text for a success.
@@ -34,7 +34,7 @@ pub(crate) struct RunInputs<'t, 'a> {
 }
 
 /// A visitor that accepts all objects.
-#[derive(Clone, Copy, Drop)]
+#[derive(Drop)]
 struct AnyObject;
 
 impl ObjectVisitor for AnyObject {
@@ -49,20 +49,28 @@ pub(crate) fn actual_result<R: Files + AllocGlobal, A: Allocator + Copy>(
     tested_alloc: A,
     inputs: RunInputs<'_, '_>,
 ) -> Result<String, Trouble> {
-    let alloc = rt.alloc();
+    match inputs.check.tested_call {
+        TestedCall::ReadRefs => reading_refs_result(rt, tested_alloc, inputs.files),
+        TestedCall::UpdateRefs => ref_update_result(rt, tested_alloc, inputs),
+        TestedCall::CloneRefs => clone_result(rt, inputs.row),
+        TestedCall::ParseUrl => url_result(rt.alloc(), inputs.check.text.as_slice()),
+        _ => result_in_memory(rt.alloc(), tested_alloc, inputs).map_err(Trouble::from),
+    }
+}
+
+// Returns the result of a test run that uses no files on disk.
+fn result_in_memory<A: Allocator + Copy>(
+    alloc: Global,
+    tested_alloc: A,
+    inputs: RunInputs<'_, '_>,
+) -> Result<String, AllocError> {
     match inputs.check.tested_call {
         TestedCall::IndexPack => index_result(alloc, tested_alloc, inputs.row, inputs.pack),
         TestedCall::ReceivePack => arrival_result(alloc, tested_alloc, inputs),
         TestedCall::ReceiveInMemory => memory_result(alloc, tested_alloc, inputs.pack),
-        TestedCall::ReadRefs => reading_refs_result(rt, tested_alloc, inputs.files),
-        TestedCall::UpdateRefs => ref_update_result(rt, tested_alloc, inputs),
-        TestedCall::CloneRefs => clone_result(rt, inputs.row),
-        TestedCall::ParseUrl => url_result(alloc, inputs.check.text.as_slice()),
-        TestedCall::ParseServedPath => served_path_result(
-            alloc,
-            tested_alloc,
-            inputs.check.text.as_slice(),
-        ),
+        TestedCall::ParseServedPath => {
+            served_path_result(alloc, tested_alloc, inputs.check.text.as_slice())
+        }
         _ => reading_result(alloc, tested_alloc, inputs),
     }
 }
@@ -73,11 +81,11 @@ fn index_result<A: Allocator + Copy>(
     tested_alloc: A,
     row: &Row<'_>,
     pack: &[u8],
-) -> Result<String, Trouble> {
+) -> Result<String, AllocError> {
     match index_pack(tested_alloc, pack, row.limits, &mut AnyObject) {
         Ok(index) => format_index(alloc, &index, row.indexed_ids.as_slice()),
-        Err(PackFileFault::Memory) => Ok(String::from_str(alloc, OUT_OF_MEMORY)?),
-        Err(fault) => Ok(format!(in alloc; "{fault:?}")?),
+        Err(PackFileFault::Memory) => String::from_str(alloc, OUT_OF_MEMORY),
+        Err(fault) => format!(in alloc; "{fault:?}"),
     }
 }
 
@@ -87,14 +95,14 @@ fn format_index<A: Allocator + Copy>(
     alloc: Global,
     index: &IndexedPack<A>,
     ids: &[Oid],
-) -> Result<String, Trouble> {
+) -> Result<String, AllocError> {
     for id in ids {
         if index.find(id).is_none() {
-            return Ok(String::from_str(alloc, "an object is not in the index")?);
+            return String::from_str(alloc, "an object is not in the index");
         }
     }
     let count = index.entries().len();
-    Ok(format!(in alloc; "{SUCCESS} {count}")?)
+    format!(in alloc; "{SUCCESS} {count}")
 }
 
 // Opens the store, and reads an object if the check names one. Returns `ok` or the fault.
@@ -102,22 +110,21 @@ fn reading_result<A: Allocator + Copy>(
     alloc: Global,
     tested_alloc: A,
     inputs: RunInputs<'_, '_>,
-) -> Result<String, Trouble> {
-    let Ok(original) = to_memory_files(tested_alloc, inputs.files) else {
-        return Ok(String::from_str(alloc, OUT_OF_MEMORY)?);
-    };
-    let Ok(replacement_files) = to_memory_files(tested_alloc, inputs.replacement_files) else {
-        return Ok(String::from_str(alloc, OUT_OF_MEMORY)?);
-    };
-    let files = ReplacedFiles::new(
-        &original,
-        &replacement_files,
-        inputs.calls_before_replacement,
-    );
-    match read_files(&files, tested_alloc, inputs.check) {
-        Ok(()) => Ok(String::from_str(alloc, SUCCESS)?),
-        Err(fault) => Ok(format!(in alloc; "{fault}")?),
+) -> Result<String, AllocError> {
+    match read_store(tested_alloc, inputs) {
+        Ok(()) => String::from_str(alloc, SUCCESS),
+        Err(fault) => format!(in alloc; "{fault}"),
     }
+}
+
+fn read_store<A: Allocator + Copy>(
+    tested_alloc: A,
+    inputs: RunInputs<'_, '_>,
+) -> Result<(), StoreFault<A>> {
+    let original = to_memory_files(tested_alloc, inputs.files)?;
+    let replacement = to_memory_files(tested_alloc, inputs.replacement_files)?;
+    let files = ReplacedFiles::new(&original, &replacement, inputs.calls_before_replacement);
+    read_files(&files, tested_alloc, inputs.check)
 }
 
 fn read_files<F: ObjectFiles, A: Allocator + Copy>(
@@ -140,8 +147,10 @@ fn read_checked<F: ObjectFiles, A: Allocator + Copy>(
     reader: &mut ObjectReader<'_, F, A>,
     id: &Oid,
 ) -> Result<(), StoreFault<A>> {
-    let _object = reader.read_checked(id)?;
-    Ok(())
+    match reader.read_checked(id) {
+        Ok(_) => Ok(()),
+        Err(fault) => Err(fault),
+    }
 }
 
 fn read_raw<F: ObjectFiles, A: Allocator + Copy>(

@@ -2,12 +2,11 @@
 
 use crate::answers::{OUT_OF_MEMORY, RunInputs, SUCCESS};
 use crate::stores::{GIT_DIR, to_memory_files};
-use crate::trouble::Trouble;
 use ggraph::{Entry, Graph, GraphFault, IndexFault, KeepingIndexer};
 use gitobjects::{ObjectFiles, ObjectReader, ObjectStore};
 use gitrepository::{MemorySpools, PackSpools, RepositoryFault, StoreIndexer, Tips};
 use gname::Oid;
-use std::alloc::{Allocator, Global};
+use std::alloc::{AllocError, Allocator, Global};
 
 // The size in bytes of the pieces of a pack.
 const PIECE_LEN: usize = 1_000;
@@ -29,16 +28,16 @@ pub(crate) fn arrival_result<A: Allocator + Copy>(
     alloc: Global,
     tested_alloc: A,
     inputs: RunInputs<'_, '_>,
-) -> Result<String, Trouble> {
+) -> Result<String, AllocError> {
     let Ok(files) = to_memory_files(tested_alloc, inputs.files) else {
-        return Ok(String::from_str(alloc, OUT_OF_MEMORY)?);
+        return String::from_str(alloc, OUT_OF_MEMORY);
     };
     match receive_pack(&files, tested_alloc, inputs) {
-        Ok(count) => Ok(format!(in alloc; "{SUCCESS} {count}")?),
-        Err(Rejection::Repository(fault)) => Ok(format!(in alloc; "{fault}")?),
-        Err(Rejection::Graph(GraphFault::Memory)) => Ok(String::from_str(alloc, OUT_OF_MEMORY)?),
-        Err(Rejection::Graph(fault)) => Ok(format!(in alloc; "{fault:?}")?),
-        Err(Rejection::PartKept) => Ok(String::from_str(alloc, "a refused pack is kept")?),
+        Ok(count) => format!(in alloc; "{SUCCESS} {count}"),
+        Err(Rejection::Repository(fault)) => format!(in alloc; "{fault}"),
+        Err(Rejection::Graph(GraphFault::Memory)) => String::from_str(alloc, OUT_OF_MEMORY),
+        Err(Rejection::Graph(fault)) => format!(in alloc; "{fault:?}"),
+        Err(Rejection::PartKept) => String::from_str(alloc, "a refused pack is kept"),
     }
 }
 

@@ -6,19 +6,26 @@ use std::alloc::Global;
 // The maximum number of bytes that one instruction inserts.
 const MAX_INSERT: usize = 127;
 
-/// Appends a size in groups of seven bits, the lowest group first.
-pub(crate) fn put_size(out: &mut Vec<u8>, size: usize) -> Result<(), Trouble> {
+/// Returns the header of a delta: the size of the base, and the size of the result.
+pub(crate) fn delta_header(alloc: Global, sizes: [usize; 2]) -> Result<Vec<u8>, Trouble> {
+    let mut header = Vec::new(alloc);
+    for size in sizes {
+        put_size(&mut header, size)?;
+    }
+    Ok(header)
+}
+
+// Appends a size in groups of seven bits, the lowest group first.
+fn put_size(out: &mut Vec<u8>, size: usize) -> Result<(), Trouble> {
     let mut rest = size;
     for _ in 0..usize::BITS {
-        let low = low_bits(rest);
-        rest >>= 7;
-        if rest == 0 {
-            out.push(low)?;
+        if rest < 0x80 {
             break;
         }
-        out.push(low | 0x80)?;
+        out.push(low_bits(rest) | 0x80)?;
+        rest >>= 7;
     }
-    Ok(())
+    out.push(low_bits(rest)).map_err(Trouble::from)
 }
 
 // Returns the lowest seven bits of a number.

@@ -150,6 +150,16 @@ pub(crate) fn parse_number(digits: &str) -> Result<usize, Trouble> {
     }
 }
 
+/// Returns the `N` numbers of a line, which spaces separate.
+pub(crate) fn parse_numbers<const N: usize>(line: &str) -> Result<[usize; N], Trouble> {
+    let mut words = line.splitn(N, ' ');
+    let mut numbers = [0; N];
+    for number in &mut numbers {
+        *number = parse_number(words.next().unwrap_or(""))?;
+    }
+    Ok(numbers)
+}
+
 /// Returns the first word of a line, and the text after the following space.
 pub(crate) fn split_first_word(line: &str) -> (&str, &str) {
     match line.split_once(' ') {

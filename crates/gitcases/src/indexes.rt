@@ -8,10 +8,10 @@ use std::alloc::Global;
 
 /// An entry of a pack index.
 #[derive(Clone, Copy, Drop)]
-struct IndexEntry {
-    id: Oid,
-    crc: u32,
-    offset: u64,
+pub(crate) struct IndexEntry {
+    pub(crate) id: Oid,
+    pub(crate) crc: u32,
+    pub(crate) offset: u64,
 }
 
 /// The entries of a pack index.
@@ -34,10 +34,8 @@ impl<'a> PackIndex<'a> {
         }
     }
 
-    pub(crate) fn push(&mut self, id: Oid, crc: u32, offset: u64) -> Result<(), Trouble> {
-        self.entries
-            .push(IndexEntry { id, crc, offset })
-            .map_err(Trouble::from)
+    pub(crate) fn push(&mut self, entry: IndexEntry) -> Result<(), Trouble> {
+        self.entries.push(entry).map_err(Trouble::from)
     }
 
     /// Makes `bytes` write the entries in the order of addition, instead of sorting them by id.

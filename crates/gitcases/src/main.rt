@@ -32,6 +32,7 @@ mod arrivals;
 mod deltas;
 mod escapes;
 mod indexes;
+mod keywords;
 mod locations;
 mod memory;
 mod names;

@@ -1,6 +1,8 @@
 //! Valid and invalid packs that lines of a test file describe (gitformat-pack(5)).
 
 use crate::deltas::low_bits;
+use crate::escapes::parse_number;
+use crate::keywords::Keyword;
 use crate::names::NamedObject;
 use crate::trouble::Trouble;
 use gitobject::ObjectType;
@@ -45,22 +47,26 @@ impl<'a> Pack<'a> {
         }
     }
 
-    /// Replaces the signature and the version in the header.
-    pub(crate) fn set_magic(&mut self, bytes: Vec<u8>) {
-        self.magic = Some(bytes);
+    /// Sets the field that a line with this keyword describes, or appends raw bytes to the entries.
+    /// `bytes` is `value` after all escapes are replaced.
+    pub(crate) fn set_field(
+        &mut self,
+        keyword: Keyword,
+        value: &str,
+        bytes: Vec<u8>,
+    ) -> Result<(), Trouble> {
+        match keyword {
+            Keyword::Bytes => return self.put_bytes(bytes.as_slice()),
+            Keyword::Count => self.count = Some(parse_number(value)?),
+            Keyword::Magic => self.magic = Some(bytes),
+            Keyword::Trailer => self.trailer = Some(bytes),
+            _ => return Err(Trouble::UnknownLine),
+        }
+        Ok(())
     }
 
-    /// Replaces the number of objects in the header.
-    pub(crate) fn set_count(&mut self, count: usize) {
-        self.count = Some(count);
-    }
-
-    pub(crate) fn set_trailer(&mut self, bytes: Vec<u8>) {
-        self.trailer = Some(bytes);
-    }
-
-    /// Appends raw bytes to the entries.
-    pub(crate) fn put_bytes(&mut self, bytes: &[u8]) -> Result<(), Trouble> {
+    // Appends raw bytes to the entries.
+    fn put_bytes(&mut self, bytes: &[u8]) -> Result<(), Trouble> {
         self.entry_bytes
             .extend_from_slice(bytes)
             .map_err(Trouble::from)

@@ -1,12 +1,13 @@
 //! Rows of test files: calls with their inputs and expected results.
 
+use crate::keywords::Keyword;
 use crate::trouble::Trouble;
 use gitpack::IndexLimits;
 use gname::Oid;
 use std::alloc::Global;
 
 /// The call that a row tests.
-#[derive(Clone, Copy, PartialEq, Eq, Drop)]
+#[derive(Clone, Copy, Drop)]
 pub(crate) enum TestedCall {
     /// Indexes a pack.
     IndexPack,
@@ -30,24 +31,6 @@ pub(crate) enum TestedCall {
     ParseUrl,
     /// Parses a text as a path that a client requests.
     ParseServedPath,
-}
-
-impl TestedCall {
-    // Returns the call that a line with this first word tests, unless the line names an object.
-    fn named(keyword: &str) -> Option<TestedCall> {
-        Some(match keyword {
-            "index" => TestedCall::IndexPack,
-            "kept" => TestedCall::ReceivePack,
-            "memory" => TestedCall::ReceiveInMemory,
-            "open" => TestedCall::OpenStore,
-            "refs" => TestedCall::ReadRefs,
-            "move" => TestedCall::UpdateRefs,
-            "clone" => TestedCall::CloneRefs,
-            "url" => TestedCall::ParseUrl,
-            "served" => TestedCall::ParseServedPath,
-            _ => return None,
-        })
-    }
 }
 
 /// An update of a ref: the name, the old id and the new id.
@@ -152,20 +135,18 @@ impl<'a> Row<'a> {
         self.checks.push(check).map_err(Trouble::from)
     }
 
-    /// Sets the field that a line with this first word describes, or adds a check. `bytes` is
-    /// `value` after all escapes are replaced.
+    /// Sets the field that a line with this keyword describes, or adds a check. `bytes` is `value`
+    /// after all escapes are replaced.
     pub(crate) fn set_field(
         &mut self,
-        keyword: &str,
+        keyword: Keyword,
         value: &'a str,
         bytes: Vec<u8>,
     ) -> Result<(), Trouble> {
-        if let Some(tested_call) = TestedCall::named(keyword) {
-            return self.add_check(tested_call, None, bytes);
-        }
         match keyword {
-            "or" => self.other_results.push(bytes).map_err(Trouble::from),
-            "asked" => {
+            Keyword::Call(tested_call) => self.add_check(tested_call, None, bytes),
+            Keyword::Or => self.other_results.push(bytes).map_err(Trouble::from),
+            Keyword::Asked => {
                 self.call_text = bytes;
                 Ok(())
             }
@@ -177,12 +158,12 @@ impl<'a> Row<'a> {
     }
 
     // Sets the name of a pack or a store, or how the row is tested.
-    fn set_name(&mut self, keyword: &str, value: &'a str) {
+    fn set_name(&mut self, keyword: Keyword, value: &'a str) {
         match keyword {
-            "of" => self.pack = value,
-            "in" => self.store = value,
-            "then" => self.replacement_store = value,
-            "sweep" => self.is_swept = true,
+            Keyword::Of => self.pack = value,
+            Keyword::In => self.store = value,
+            Keyword::Then => self.replacement_store = value,
+            Keyword::Sweep => self.is_swept = true,
             _ => self.is_large = true,
         }
     }

@@ -108,14 +108,14 @@ fn count_and_print<R: Print>(
 
 // Returns whether this result is allowed with this variation.
 fn is_right(inputs: RunInputs<'_, '_>, variation: Variation, actual_result: &str) -> bool {
+    let is_fault = !actual_result.starts_with(SUCCESS);
+    let is_allowed = is_allowed_result(inputs, actual_result);
     match variation {
         Variation::Unchanged => actual_result.as_bytes() == inputs.check.expected.as_slice(),
-        Variation::BrokenPack => !actual_result.starts_with(SUCCESS),
-        Variation::ChangedBits => !actual_result.starts_with(SUCCESS)
-            || is_allowed_result(inputs, actual_result),
-        Variation::ReplacedFiles => is_allowed_result(inputs, actual_result),
-        Variation::RefusedAllocations => actual_result == OUT_OF_MEMORY
-            || is_allowed_result(inputs, actual_result),
+        Variation::BrokenPack => is_fault,
+        Variation::ChangedBits => is_fault || is_allowed,
+        Variation::ReplacedFiles => is_allowed,
+        Variation::RefusedAllocations => is_allowed || actual_result == OUT_OF_MEMORY,
     }
 }
 
@@ -189,19 +189,11 @@ fn test_truncated_pack<R: Files + Print + AllocGlobal>(
     tally: &mut Tally,
 ) -> Result<(), Trouble> {
     let prefix = inputs.pack.get(..offset).unwrap_or(b"");
-    let mut truncated_pack = prefix.to_vec(rt.alloc())?;
-    test_pack(
+    let truncated_pack = prefix.to_vec(rt.alloc())?;
+    test_both_trailers(
         rt,
         inputs,
-        truncated_pack.as_slice(),
-        (Variation::BrokenPack, offset),
-        tally,
-    )?;
-    correct_trailer(&mut truncated_pack)?;
-    test_pack(
-        rt,
-        inputs,
-        truncated_pack.as_slice(),
+        truncated_pack,
         (Variation::BrokenPack, offset),
         tally,
     )
@@ -218,23 +210,34 @@ fn test_flipped_bits<R: Files + Print + AllocGlobal>(
     for bit in BITS {
         let mut changed_pack = inputs.pack.to_vec(rt.alloc())?;
         flip_bit(&mut changed_pack, offset, bit);
-        test_pack(
+        test_both_trailers(
             rt,
             inputs,
-            changed_pack.as_slice(),
-            (Variation::BrokenPack, offset),
-            tally,
-        )?;
-        correct_trailer(&mut changed_pack)?;
-        test_pack(
-            rt,
-            inputs,
-            changed_pack.as_slice(),
+            changed_pack,
             (Variation::ChangedBits, offset),
             tally,
         )?;
     }
     Ok(())
+}
+
+// Tests a changed pack, first without a correct trailer, and then with one and this variation.
+fn test_both_trailers<R: Files + Print + AllocGlobal>(
+    rt: &R,
+    inputs: RunInputs<'_, '_>,
+    mut pack: Vec<u8>,
+    (variation, offset): (Variation, usize),
+    tally: &mut Tally,
+) -> Result<(), Trouble> {
+    test_pack(
+        rt,
+        inputs,
+        pack.as_slice(),
+        (Variation::BrokenPack, offset),
+        tally,
+    )?;
+    correct_trailer(&mut pack)?;
+    test_pack(rt, inputs, pack.as_slice(), (variation, offset), tally)
 }
 
 fn test_pack<R: Files + Print + AllocGlobal>(

@@ -1,8 +1,9 @@
 //! The parser of test files. FORMAT.md describes each kind of line.
 
-use crate::deltas::{copy_instruction, insert_instructions, put_size};
-use crate::escapes::{expand_escapes, parse_number, split_first_word};
-use crate::indexes::PackIndex;
+use crate::deltas::{copy_instruction, delta_header, insert_instructions};
+use crate::escapes::{expand_escapes, parse_number, parse_numbers, split_first_word};
+use crate::indexes::{IndexEntry, PackIndex};
+use crate::keywords::{Keyword, keyword_of};
 use crate::names::Names;
 use crate::packs::{Pack, parse_type_number};
 use crate::row::{Row, TestedCall, Update};
@@ -10,7 +11,6 @@ use crate::stores::{File, Store, loose_text};
 use crate::trouble::Trouble;
 use gitobject::ObjectType;
 use gitpack::IndexLimits;
-use gname::Oid;
 use gzlib::Deflater;
 use std::alloc::Global;
 
@@ -65,7 +65,7 @@ impl<'a> Script<'a> {
         if name.is_empty() {
             return Ok(Vec::new(self.alloc));
         }
-        self.pack(name)?.bytes(self.alloc)
+        find_pack(self.packs.as_slice(), name)?.bytes(self.alloc)
     }
 
     /// Returns the files of the store with this name, or no files for an empty name.
@@ -81,22 +81,14 @@ impl<'a> Script<'a> {
         Err(Trouble::UnknownName)
     }
 
-    fn pack(&self, name: &str) -> Result<&Pack<'a>, Trouble> {
-        for pack in &self.packs {
-            if pack.name == name {
-                return Ok(pack);
-            }
-        }
-        Err(Trouble::UnknownName)
-    }
-
     // Parses a line once for each of its repetitions.
     fn read_line(&mut self, line: &'a str) -> Result<(), Trouble> {
         if line.is_empty() || line.starts_with('#') {
             return Ok(());
         }
-        let (keyword, value) = split_first_word(line);
-        if keyword == "times" {
+        let (word, value) = split_first_word(line);
+        let keyword = keyword_of(word);
+        if let Keyword::Times = keyword {
             self.repetitions = parse_number(value)?;
             return Ok(());
         }
@@ -108,19 +100,42 @@ impl<'a> Script<'a> {
         Ok(())
     }
 
-    fn read_keyword_line(&mut self, keyword: &'a str, value: &'a str) -> Result<(), Trouble> {
+    fn read_keyword_line(&mut self, keyword: Keyword, value: &'a str) -> Result<(), Trouble> {
         match keyword {
-            "text" => self.add_text(value),
-            "commit" | "tree" | "blob" | "tag" => self.add_object(keyword, value),
-            "delta" => self.begin_delta(value),
-            "copy" | "insert" | "also" => self.add_to_delta(keyword, value),
-            "pack" => Ok(self.packs.push(Pack::new(self.alloc, value))?),
-            "lines" => self.begin_index(value),
-            "line" | "wrong-line" | "unsorted" => self.add_to_index(keyword, value),
-            "store" => Ok(self.stores.push(Store::new(self.alloc, value)?)?),
-            "loose" | "file" | "packed" | "at" => self.add_to_store(keyword, value),
-            "row" => self.begin_row(value),
-            _ if is_row_keyword(keyword) => self.add_to_row(keyword, value),
+            Keyword::Text => self.add_text(value),
+            Keyword::Object(kind) => self.add_object(kind, value),
+            Keyword::Delta => self.begin_delta(value),
+            Keyword::Copy | Keyword::Insert | Keyword::Also => self.add_to_delta(keyword, value),
+            Keyword::Pack => self.begin_pack(value),
+            Keyword::Lines => self.begin_index(value),
+            Keyword::Line | Keyword::WrongLine | Keyword::Unsorted => {
+                self.add_to_index(keyword, value)
+            }
+            Keyword::Store => self.begin_store(value),
+            Keyword::Loose => self.add_loose(value),
+            Keyword::File => self.add_file(value),
+            Keyword::Packed => self.add_packed(value),
+            Keyword::At => self.set_folder(value),
+            Keyword::Row => self.begin_row(value),
+            _ => self.read_entry_or_row_line(keyword, value),
+        }
+    }
+
+    // Parses a line that adds to a pack or to a row.
+    fn read_entry_or_row_line(&mut self, keyword: Keyword, value: &'a str) -> Result<(), Trouble> {
+        match keyword {
+            Keyword::Read(tested_call) => self.add_read(tested_call, value),
+            Keyword::Has | Keyword::Tips => self.add_ids(keyword, value),
+            Keyword::Limits => self.set_limits(value),
+            Keyword::Update => self.add_update(value),
+            Keyword::Of
+            | Keyword::In
+            | Keyword::Then
+            | Keyword::Asked
+            | Keyword::Call(_)
+            | Keyword::Or
+            | Keyword::Large
+            | Keyword::Sweep => self.set_row_field(keyword, value),
             _ => self.add_to_pack(keyword, value),
         }
     }
@@ -135,64 +150,57 @@ impl<'a> Script<'a> {
         self.names.add_text(name, bytes)
     }
 
-    fn add_object(&mut self, keyword: &str, value: &'a str) -> Result<(), Trouble> {
+    fn add_object(&mut self, kind: ObjectType, value: &'a str) -> Result<(), Trouble> {
         let (name, line) = split_first_word(value);
         let body = self.expand_escapes(line)?;
-        match ObjectType::from_name(keyword.as_bytes()) {
-            Some(kind) => self.names.add_object(name, kind, body),
-            None => Err(Trouble::UnknownLine),
-        }
+        self.names.add_object(name, kind, body)
     }
 
     // Begins a delta with its name, the size of the base, and the size of the result.
     fn begin_delta(&mut self, value: &'a str) -> Result<(), Trouble> {
         let (name, sizes) = split_first_word(value);
-        let (base_size, result_size) = split_first_word(sizes);
-        let mut bytes = Vec::new(self.alloc);
-        put_size(&mut bytes, parse_number(base_size)?)?;
-        put_size(&mut bytes, parse_number(result_size)?)?;
-        self.names.add_text(name, bytes)
+        let sizes = parse_numbers::<2>(sizes)?;
+        self.names.add_text(name, delta_header(self.alloc, sizes)?)
     }
 
-    fn add_to_delta(&mut self, keyword: &str, value: &str) -> Result<(), Trouble> {
+    fn add_to_delta(&mut self, keyword: Keyword, value: &str) -> Result<(), Trouble> {
         let bytes = match keyword {
-            "copy" => {
-                let (offset, size) = split_first_word(value);
-                copy_instruction(self.alloc, parse_number(offset)?, parse_number(size)?)?
+            Keyword::Copy => {
+                let [offset, size] = parse_numbers::<2>(value)?;
+                copy_instruction(self.alloc, offset, size)
             }
-            "insert" => insert_instructions(self.alloc, self.expand_escapes(value)?.as_slice())?,
-            _ => self.expand_escapes(value)?,
+            Keyword::Insert => self.insert_instructions(value),
+            _ => self.expand_escapes(value),
         };
-        self.names.add_to_text(bytes.as_slice())
+        self.names.add_to_text(bytes?.as_slice())
     }
 
-    fn add_to_pack(&mut self, keyword: &str, value: &str) -> Result<(), Trouble> {
+    fn insert_instructions(&self, line: &str) -> Result<Vec<u8>, Trouble> {
+        let bytes = self.expand_escapes(line)?;
+        insert_instructions(self.alloc, bytes.as_slice())
+    }
+
+    fn begin_pack(&mut self, name: &'a str) -> Result<(), Trouble> {
+        self.packs
+            .push(Pack::new(self.alloc, name))
+            .map_err(Trouble::from)
+    }
+
+    fn add_to_pack(&mut self, keyword: Keyword, value: &str) -> Result<(), Trouble> {
         let Some(pack) = self.packs.last_mut() else {
             return Err(Trouble::NoCurrentItem);
         };
         match keyword {
-            "whole" => put_whole(&self.names, &mut self.deflater, pack, value),
-            "entry" => put_entry(self.alloc, &self.names, &mut self.deflater, pack, value),
-            "back" | "far" => put_offset_delta(&self.names, pack, keyword, value),
-            "by-id" => put_ref_delta(&self.names, pack, value),
-            "head" => begin_entry(pack, value),
-            _ => self.set_pack_field(keyword, value),
+            Keyword::Whole => put_whole(&self.names, &mut self.deflater, pack, value),
+            Keyword::Entry => put_entry(self.alloc, &self.names, &mut self.deflater, pack, value),
+            Keyword::Back | Keyword::Far => put_offset_delta(&self.names, pack, keyword, value),
+            Keyword::ById => put_ref_delta(&self.names, pack, value),
+            Keyword::Head => begin_entry(pack, value),
+            _ => {
+                let bytes = expand_escapes(self.alloc, &self.names, value)?;
+                pack.set_field(keyword, value, bytes)
+            }
         }
-    }
-
-    fn set_pack_field(&mut self, keyword: &str, value: &str) -> Result<(), Trouble> {
-        let bytes = self.expand_escapes(value)?;
-        let Some(pack) = self.packs.last_mut() else {
-            return Err(Trouble::NoCurrentItem);
-        };
-        match keyword {
-            "bytes" => return pack.put_bytes(bytes.as_slice()),
-            "count" => pack.set_count(parse_number(value)?),
-            "magic" => pack.set_magic(bytes),
-            "trailer" => pack.set_trailer(bytes),
-            _ => return Err(Trouble::UnknownLine),
-        }
-        Ok(())
     }
 
     fn begin_index(&mut self, value: &'a str) -> Result<(), Trouble> {
@@ -203,51 +211,25 @@ impl<'a> Script<'a> {
     }
 
     // Adds an entry to an index, or marks the index as unsorted.
-    fn add_to_index(&mut self, keyword: &str, value: &str) -> Result<(), Trouble> {
-        let Some(last) = self.indexes.last() else {
+    fn add_to_index(&mut self, keyword: Keyword, value: &str) -> Result<(), Trouble> {
+        let Some(index) = self.indexes.last_mut() else {
             return Err(Trouble::NoCurrentItem);
         };
-        let pack = last.pack;
-        if keyword == "unsorted" {
-            return self.set_unsorted();
+        if let Keyword::Unsorted = keyword {
+            index.set_unsorted();
+            return Ok(());
         }
-        let (id, crc, offset) = self.index_entry(pack, value)?;
-        let crc = if keyword == "line" { crc } else { !crc };
-        match self.indexes.last_mut() {
-            Some(index) => index.push(id, crc, offset),
-            None => Err(Trouble::NoCurrentItem),
+        let pack = find_pack(self.packs.as_slice(), index.pack)?;
+        let mut entry = index_entry(&self.names, pack, value)?;
+        if let Keyword::WrongLine = keyword {
+            entry.crc = !entry.crc;
         }
+        index.push(entry)
     }
 
-    // Returns the id, the CRC-32 and the offset of an index entry. Its line states the name of an
-    // object and the number of a pack entry. The index entry has the offset of the pack entry,
-    // unless the line states another offset.
-    fn index_entry(&self, pack: &str, value: &str) -> Result<(Oid, u32, u64), Trouble> {
-        let (name, rest) = split_first_word(value);
-        let (number, offset) = split_first_word(rest);
-        let (start, crc) = self.pack(pack)?.offset_and_crc(parse_number(number)?)?;
-        let offset = entry_offset(start, offset)?;
-        let id = self.names.find_object(name)?.id;
-        Ok((id, crc, offset))
-    }
-
-    fn set_unsorted(&mut self) -> Result<(), Trouble> {
-        match self.indexes.last_mut() {
-            Some(index) => {
-                index.set_unsorted();
-                Ok(())
-            }
-            None => Err(Trouble::NoCurrentItem),
-        }
-    }
-
-    fn add_to_store(&mut self, keyword: &str, value: &'a str) -> Result<(), Trouble> {
-        match keyword {
-            "loose" => self.add_loose(value),
-            "packed" => self.add_packed(value),
-            "at" => self.set_folder(value),
-            _ => self.add_file(value),
-        }
+    fn begin_store(&mut self, name: &'a str) -> Result<(), Trouble> {
+        let store = Store::new(self.alloc, name)?;
+        self.stores.push(store).map_err(Trouble::from)
     }
 
     fn set_folder(&mut self, folder: &'a str) -> Result<(), Trouble> {
@@ -302,7 +284,7 @@ impl<'a> Script<'a> {
     fn index_bytes(&self, name: &str) -> Result<Vec<u8>, Trouble> {
         for index in &self.indexes {
             if index.name == name {
-                return index.bytes(self.alloc, self.pack(index.pack)?);
+                return index.bytes(self.alloc, find_pack(self.packs.as_slice(), index.pack)?);
             }
         }
         Err(Trouble::UnknownName)
@@ -313,17 +295,7 @@ impl<'a> Script<'a> {
         self.rows.push(row).map_err(Trouble::from)
     }
 
-    fn add_to_row(&mut self, keyword: &str, value: &'a str) -> Result<(), Trouble> {
-        match keyword {
-            "read" | "raw" => self.add_read(keyword, value),
-            "has" | "tips" => self.add_ids(keyword, value),
-            "limits" => self.set_limits(value),
-            "update" => self.add_update(value),
-            _ => self.set_row_field(keyword, value),
-        }
-    }
-
-    fn set_row_field(&mut self, keyword: &str, value: &'a str) -> Result<(), Trouble> {
+    fn set_row_field(&mut self, keyword: Keyword, value: &'a str) -> Result<(), Trouble> {
         let bytes = self.expand_escapes(value)?;
         match self.rows.last_mut() {
             Some(row) => row.set_field(keyword, value, bytes),
@@ -331,15 +303,10 @@ impl<'a> Script<'a> {
         }
     }
 
-    fn add_read(&mut self, keyword: &str, value: &str) -> Result<(), Trouble> {
+    fn add_read(&mut self, tested_call: TestedCall, value: &str) -> Result<(), Trouble> {
         let (name, line) = split_first_word(value);
         let id = self.names.find_object(name)?.id;
         let expected = self.expand_escapes(line)?;
-        let tested_call = if keyword == "read" {
-            TestedCall::ReadObject
-        } else {
-            TestedCall::ReadRawEntry
-        };
         match self.rows.last_mut() {
             Some(row) => row.add_check(tested_call, Some(id), expected),
             None => Err(Trouble::NoCurrentItem),
@@ -367,14 +334,17 @@ impl<'a> Script<'a> {
         }
     }
 
-    fn add_ids(&mut self, keyword: &str, value: &str) -> Result<(), Trouble> {
+    fn add_ids(&mut self, keyword: Keyword, value: &str) -> Result<(), Trouble> {
         for name in value.split(' ') {
             let id = self.names.find_object(name)?.id;
-            match self.rows.last_mut() {
-                Some(row) if keyword == "has" => row.indexed_ids.push(id)?,
-                Some(row) => row.tips.push(id)?,
-                None => return Err(Trouble::NoCurrentItem),
-            }
+            let Some(row) = self.rows.last_mut() else {
+                return Err(Trouble::NoCurrentItem);
+            };
+            let ids = match keyword {
+                Keyword::Has => &mut row.indexed_ids,
+                _ => &mut row.tips,
+            };
+            ids.push(id)?;
         }
         Ok(())
     }
@@ -382,14 +352,12 @@ impl<'a> Script<'a> {
     // Sets the limits of indexing: the number of objects, the size of an object, the bytes held in
     // memory, and the size of all objects.
     fn set_limits(&mut self, value: &str) -> Result<(), Trouble> {
-        let (objects, other_values) = split_first_word(value);
-        let (object, other_values) = split_first_word(other_values);
-        let (held, total) = split_first_word(other_values);
+        let [objects, object, held, total] = parse_numbers::<4>(value)?;
         let limits = IndexLimits {
-            objects: parse_number(objects)?,
-            object: parse_number(object)?,
-            held: parse_number(held)?,
-            total: parse_number(total)?,
+            objects,
+            object,
+            held,
+            total,
             table: 0,
         };
         match self.rows.last_mut() {
@@ -433,15 +401,14 @@ fn put_entry(
 fn put_offset_delta(
     names: &Names<'_>,
     pack: &mut Pack<'_>,
-    keyword: &str,
+    keyword: Keyword,
     value: &str,
 ) -> Result<(), Trouble> {
     let (number, name) = split_first_word(value);
     let number = parse_number(number)?;
-    let distance = if keyword == "back" {
-        pack.distance_of(number)?
-    } else {
-        number
+    let distance = match keyword {
+        Keyword::Back => pack.distance_of(number)?,
+        _ => number,
     };
     pack.put_offset_delta(distance, names.find_text(name)?)
 }
@@ -459,6 +426,26 @@ fn begin_entry(pack: &mut Pack<'_>, value: &str) -> Result<(), Trouble> {
     pack.begin_entry(parse_type_number(kind)?, parse_number(size)?)
 }
 
+fn find_pack<'p, 'a>(packs: &'p [Pack<'a>], name: &str) -> Result<&'p Pack<'a>, Trouble> {
+    for pack in packs {
+        if pack.name == name {
+            return Ok(pack);
+        }
+    }
+    Err(Trouble::UnknownName)
+}
+
+// Returns an index entry. Its line states the name of an object and the number of a pack entry. The
+// index entry has the offset of the pack entry, unless the line states another offset.
+fn index_entry(names: &Names<'_>, pack: &Pack<'_>, value: &str) -> Result<IndexEntry, Trouble> {
+    let (name, rest) = split_first_word(value);
+    let (number, offset) = split_first_word(rest);
+    let (start, crc) = pack.offset_and_crc(parse_number(number)?)?;
+    let offset = entry_offset(start, offset)?;
+    let id = names.find_object(name)?.id;
+    Ok(IndexEntry { id, crc, offset })
+}
+
 // Parses the offset of an entry. An empty text means `start`, and a leading `+` marks a distance
 // from `start`.
 fn entry_offset(start: usize, offset: &str) -> Result<u64, Trouble> {
@@ -469,32 +456,4 @@ fn entry_offset(start: usize, offset: &str) -> Result<u64, Trouble> {
         Some(distance) => Ok(start.saturating_add(parse_number(distance)?) as u64),
         None => Ok(parse_number(offset)? as u64),
     }
-}
-
-// Returns whether a line with this first word belongs to a row.
-fn is_row_keyword(keyword: &str) -> bool {
-    matches!(
-        keyword,
-        "of" | "in"
-            | "then"
-            | "index"
-            | "has"
-            | "limits"
-            | "kept"
-            | "memory"
-            | "tips"
-            | "open"
-            | "refs"
-            | "update"
-            | "move"
-            | "clone"
-            | "asked"
-            | "url"
-            | "served"
-            | "read"
-            | "raw"
-            | "or"
-            | "large"
-            | "sweep"
-    )
 }

@@ -3,7 +3,7 @@
 use std::io;
 
 /// A way in which a row is tested.
-#[derive(Clone, Copy, PartialEq, Eq)]
+#[derive(Clone, Copy)]
 pub(crate) enum Variation {
     /// The input is unchanged.
     Unchanged,
@@ -31,7 +31,7 @@ impl Variation {
 }
 
 /// The counts of runs and of wrong results.
-#[derive(Clone, Copy, Drop)]
+#[derive(Drop)]
 pub(crate) struct Tally {
     rows: u64,
     runs: [u64; 5],
