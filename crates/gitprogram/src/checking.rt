@@ -32,15 +32,18 @@ fn check_found<R: Files + AllocGlobal>(rt: &R, found: &Directories) -> Result<Ch
     };
     match check_repository(&found.refs(alloc, rt), &mut reader) {
         Ok(checked) => Ok(checked),
-        Err(CheckFault::Repository(fault)) => Err(repository_fault(alloc, path, &fault)),
-        Err(CheckFault::Ref { name, fault }) => Err(Fault::of(
-            alloc,
-            Sentence::BrokenRef {
-                path,
-                name: name.as_bytes(),
-                fault: &fault,
-            },
-        )),
+        Err(fault) => Err(check_fault(alloc, path, &fault)),
+    }
+}
+
+// Converts a fault of the check of the repository at a path.
+fn check_fault(alloc: Global, path: &str, fault: &CheckFault<Global>) -> Fault {
+    match fault {
+        CheckFault::Repository(fault) => repository_fault(alloc, path, fault),
+        CheckFault::Ref { name, fault } => {
+            let name = name.as_bytes();
+            Fault::of(alloc, Sentence::BrokenRef { path, name, fault })
+        }
     }
 }
 

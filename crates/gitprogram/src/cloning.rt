@@ -11,7 +11,7 @@ use crate::fetching::{Fetch, StoredFetch, Wanted, progress_of, receive};
 use crate::opening::repository_fault;
 use crate::progress::Progress;
 use crate::remote::{Remote, tips_of};
-use crate::sentences::Sentence;
+use crate::sentences::{OCCUPIED, Sentence};
 use gclient::{Repo, Spec};
 use ggraph::{Head, Refs, Target};
 use gitrefs::{Cause, RefFault};
@@ -79,16 +79,10 @@ where
 // much memory, so this function drops them. The fetch lists the refs again.
 fn server_refs_of<R: AllocGlobal + Net>(rt: &R, remote: &Remote) -> Result<ServerRefs, Fault> {
     let alloc = rt.alloc();
-    let listed = list(rt, remote)?;
+    let listed = remote.list(rt, alloc, prefixes(alloc)?.as_slice())?;
     let head = head_of(alloc, &listed)?;
     let tips = tips_of(alloc, &listed)?;
     Ok(ServerRefs { head, tips })
-}
-
-// Lists HEAD, the branches and the tags of the server.
-fn list<R: AllocGlobal + Net>(rt: &R, remote: &Remote) -> Result<LsReply<Global>, Fault> {
-    let prefixes = prefixes(rt.alloc())?;
-    remote.list(rt, rt.alloc(), prefixes.as_slice())
 }
 
 // Fails if the path exists, unless it is an empty directory.
@@ -97,14 +91,25 @@ fn check_vacant<R: Files + AllocGlobal>(rt: &R, dir: &str) -> Result<(), Fault> 
     match fs::read_dir(&(rt, &alloc), dir) {
         Ok(mut entries) => match entries.next() {
             None => Ok(()),
-            Some(_) => Err(Fault::of(alloc, Sentence::Occupied { path: dir })),
+            Some(_) => Err(occupied_fault(alloc, dir)),
         },
-        Err(error) if error.kind() == ErrorKind::NotFound => Ok(()),
-        Err(error) if error.kind() == ErrorKind::NotADirectory => {
-            Err(Fault::of(alloc, Sentence::Occupied { path: dir }))
-        }
-        Err(error) => Err(open_fault(alloc, dir, &error)),
+        Err(error) => match error.kind() {
+            ErrorKind::NotFound => Ok(()),
+            ErrorKind::NotADirectory => Err(occupied_fault(alloc, dir)),
+            _ => Err(open_fault(alloc, dir, &error)),
+        },
     }
+}
+
+// Returns the fault for a destination that exists and is not an empty directory.
+fn occupied_fault(alloc: Global, path: &str) -> Fault {
+    Fault::of(
+        alloc,
+        Sentence::Path {
+            path,
+            text: OCCUPIED,
+        },
+    )
 }
 
 fn prefixes(alloc: Global) -> Result<Vec<Prefix>, Fault> {
@@ -247,10 +252,8 @@ where
         head_ref: HEAD_REF,
         path: dir,
     };
-    match make(rt, dir, remote, head)? {
-        Ok(new) => fill(rt, &found, new, wanted, progress),
-        Err(fault) => Err(make_fault(alloc, dir, &fault)),
-    }
+    let new = make(rt, dir, remote, head)?;
+    fill(rt, &found, new, wanted, progress)
 }
 
 // Returns the fault for a repository that cannot be created. A possible cause is that another
@@ -262,25 +265,27 @@ fn make_fault(alloc: Global, dir: &str, fault: &RepositoryFault<Global>) -> Faul
                 cause: Cause::Exists,
                 ..
             },
-        ) => Fault::of(alloc, Sentence::Occupied { path: dir }),
+        ) => occupied_fault(alloc, dir),
         _ => repository_fault(alloc, dir, fault),
     }
 }
 
-// Creates the repository, with a HEAD that points at a branch. The outer result fails only if out
-// of memory.
+// Creates the repository, with a HEAD that points at a branch.
 fn make<'r, R: Files + AllocGlobal>(
     rt: &'r R,
     dir: &'r str,
     remote: &Remote,
     head: &ServerHead,
-) -> Result<Result<NewRepository<'r, R, Global>, RepositoryFault<Global>>, Fault> {
+) -> Result<NewRepository<'r, R, Global>, Fault> {
     let alloc = rt.alloc();
     let branch = match head {
         ServerHead::Branch(target) => target.copy_in(alloc)?,
         ServerHead::Detached => default_target(alloc)?,
     };
-    Ok(NewRepository::make(alloc, rt, dir, remote.url.as_str(), &branch))
+    match NewRepository::make(alloc, rt, dir, remote.url.as_str(), &branch) {
+        Ok(new) => Ok(new),
+        Err(fault) => Err(make_fault(alloc, dir, &fault)),
+    }
 }
 
 // Fetches into the new repository, and installs the pack and the refs.

@@ -3,7 +3,7 @@
 use crate::directory::Directories;
 use gclient::{Ask, Asks, Fetched, RefUpdate, Settled, Spec};
 use ggraph::Refs;
-use gitobjects::{QuickReader, StoredFiles};
+use gitobjects::{ObjectFiles, QuickReader, StoredFiles};
 use gitrepository::{RepositoryFault, check_form};
 use glsreply::{LsReply, RefLine};
 use std::alloc::Global;
@@ -33,16 +33,10 @@ where
     let path = found.common.as_str();
     check_form(&files, alloc, path)?;
     let (refs, _head) = found.refs(alloc, rt).read_refs()?;
-    if !are_current(&asks, &refs) {
-        return Ok(None);
+    if are_current(&asks, &refs) && are_stored(alloc, &files, path, &asks)? {
+        return Ok(Some(report_of(alloc, asks)?));
     }
-    let mut reader = QuickReader::open(&files, alloc, path)?;
-    for id in &asks.ids(alloc)? {
-        if !reader.holds(id)? {
-            return Ok(None);
-        }
-    }
-    Ok(Some(report_of(alloc, asks)?))
+    Ok(None)
 }
 
 // Returns the ref updates that the refspecs request, in the order in which a fetch applies them.
@@ -107,6 +101,22 @@ fn are_current(asks: &Asks<Global>, refs: &Refs<Global>) -> bool {
         Some((name, id)) => refs.get(name) == Some(id),
         None => false,
     })
+}
+
+// Returns whether each requested object exists.
+fn are_stored<F: ObjectFiles>(
+    alloc: Global,
+    files: &F,
+    path: &str,
+    asks: &Asks<Global>,
+) -> Result<bool, RepositoryFault<Global>> {
+    let mut reader = QuickReader::open(files, alloc, path)?;
+    for id in &asks.ids(alloc)? {
+        if !reader.holds(id)? {
+            return Ok(false);
+        }
+    }
+    Ok(true)
 }
 
 // Returns the report of a fetch that changes no ref.

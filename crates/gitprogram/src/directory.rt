@@ -1,7 +1,7 @@
 //! Finding the repository at a path.
 
 use crate::fault::Fault;
-use crate::sentences::Sentence;
+use crate::sentences::{NO_REPOSITORY, Sentence};
 use gitobjects::StoredFiles;
 use gitrefs::{GitDirectory, parse_common_dir, parse_git_file};
 use gitrepository::is_bare;
@@ -18,7 +18,7 @@ const EXPORT_OK: &str = "git-daemon-export-ok";
 const MAX_POINTER: u64 = 65_536;
 
 /// The directories of a repository (gitrepository-layout(5)).
-#[derive(Debug, Drop)]
+#[derive(Drop)]
 pub(crate) struct Directories {
     /// The Git directory, which contains HEAD.
     pub(crate) own: String,
@@ -88,7 +88,8 @@ where
             return Ok(found);
         }
     }
-    Err(Fault::of(rt.alloc(), Sentence::NoRepository { path }))
+    let text = NO_REPOSITORY;
+    Err(Fault::of(rt.alloc(), Sentence::Path { path, text }))
 }
 
 /// The repositories that a server may serve.
@@ -179,18 +180,19 @@ where
     let Some(common) = common_of(rt, own.as_str())? else {
         return Ok(None);
     };
-    if exists(rt, own.as_str(), "HEAD")?
-        && exists(rt, common.as_str(), "objects")?
-        && exists(rt, common.as_str(), "refs")?
-    {
-        Ok(Some(Directories {
-            own,
-            common,
-            is_linked,
-        }))
-    } else {
-        Ok(None)
+    if !has_parts(rt, own.as_str(), common.as_str())? {
+        return Ok(None);
     }
+    Ok(Some(Directories {
+        own,
+        common,
+        is_linked,
+    }))
+}
+
+// Returns whether these directories contain HEAD, the objects and the refs of a repository.
+fn has_parts<R: Files + AllocGlobal>(rt: &R, own: &str, common: &str) -> Result<bool, Fault> {
+    Ok(exists(rt, own, "HEAD")? && exists(rt, common, "objects")? && exists(rt, common, "refs")?)
 }
 
 // Returns whether the last component of a path is `.git`, ignoring slashes at the end.
@@ -279,7 +281,7 @@ fn exists<R: Files + AllocGlobal>(rt: &R, directory: &str, name: &str) -> Result
 
 /// Returns the fault for a file that the system cannot open.
 pub(crate) fn open_fault(alloc: Global, path: &str, error: &io::Error) -> Fault {
-    Fault::of(alloc, Sentence::Open { path, error })
+    Fault::of_call(alloc, "open", path, error)
 }
 
 // Returns whether an error means that the file does not exist.

@@ -3,10 +3,10 @@
 use crate::sentences::Sentence;
 use gname::OUT_OF_MEMORY_TEXT;
 use std::alloc::{AllocError, AllocFailed, Global};
-use std::fmt;
+use std::{fmt, io};
 
 /// The reason for a failed command, which is printed on one line after the program name.
-#[derive(Debug, Drop)]
+#[derive(Drop)]
 pub(crate) enum Fault {
     /// Out of memory.
     Memory,
@@ -21,6 +21,16 @@ impl Fault {
             Ok(text) => Fault::Said(text),
             Err(_) => Fault::Memory,
         }
+    }
+
+    /// Returns the fault for a system call that failed. The message names the call and its object.
+    pub(crate) fn of_call(
+        alloc: Global,
+        call: &'static str,
+        name: &str,
+        error: &io::Error,
+    ) -> Fault {
+        Fault::of(alloc, Sentence::Refused { call, name, error })
     }
 }
 

@@ -13,7 +13,7 @@ use crate::opening::{open_client, repository_fault};
 use crate::output::Output;
 use crate::progress::{Progress, Watched};
 use crate::remote::{Remote, tips_of};
-use crate::sentences::Sentence;
+use crate::sentences::{CHECKED_OUT, NO_COMMIT, NO_FILE_NAME, NOT_FORWARD, Sentence};
 use gclient::{
     ClientFault, FetchFault, Fetched, GitFetch, MAX_SPECS, PackOptions, RefUpdate, Repo, Spec,
     fetch_git,
@@ -124,22 +124,41 @@ where
         is_quiet: args.verbosity.quiet,
         is_terminal,
     };
-    let tips = {
-        let listed = list_sources(rt, &remote, args.specs.as_slice())?;
-        if let Some(fetched) = find_current(rt, &found, args.specs.as_slice(), &listed)? {
-            return report_unless(rt, report, &fetched);
-        }
-        tips_of(rt.alloc(), &listed)?
+    let specs = args.specs.as_slice();
+    let Some(tips) = tips_unless_current(rt, &found, &remote, specs, report)? else {
+        return Ok(());
     };
     let wanted = Wanted {
         remote: &remote,
-        specs: args.specs.as_slice(),
+        specs,
         tips: &tips,
         head_ref: b"",
         path: found.common.as_str(),
     };
     let mut progress = progress_of(rt.alloc(), args.verbosity, errors);
     fetch_found(rt, &found, report, wanted, &mut progress)
+}
+
+// Returns the ids of the server's refs. If all refs of the fetch are already up to date, prints
+// this result for each ref, and returns `None`.
+fn tips_unless_current<R>(
+    rt: &R,
+    found: &Directories,
+    remote: &Remote,
+    specs: &[Spec<Global>],
+    report: Report,
+) -> Result<Option<Tips<Global>>, Fault>
+where
+    R: Files + Print + AllocGlobal + Net,
+{
+    let listed = list_sources(rt, remote, specs)?;
+    match find_current(rt, found, specs, &listed)? {
+        Some(fetched) => {
+            print_report(rt, report, &fetched)?;
+            Ok(None)
+        }
+        None => Ok(Some(tips_of(rt.alloc(), &listed)?)),
+    }
 }
 
 // Fetches refs into the repository in these directories, and prints the result for each ref.
@@ -229,7 +248,7 @@ where
                 received,
             } = fetch;
             keep(rt, found, &client, received)?;
-            report_unless(rt, report, &fetched)?;
+            print_report(rt, report, &fetched)?;
             check_moved(rt.alloc(), &fetched)
         }
         Err(fault) => Err(fault),
@@ -292,13 +311,23 @@ fn keep<'r, R: Files + AllocGlobal>(
     client: &Client,
     received: Option<StoredReceived<'r, R>>,
 ) -> Result<(), Fault> {
-    let updates = updates_of(rt.alloc(), &client.before, client.repo.refs())?;
-    check_head(rt, found, updates.as_slice())?;
-    check_names(rt.alloc(), updates.as_slice())?;
+    let updates = checked_updates(rt, found, client)?;
     match install_and_move(rt, found, received, updates.as_slice()) {
         Ok(()) => Ok(()),
         Err(fault) => Err(repository_fault(rt.alloc(), found.common.as_str(), &fault)),
     }
+}
+
+// Returns the refs that the fetch changes. Fails if a ref cannot be changed.
+fn checked_updates<R: Files + AllocGlobal>(
+    rt: &R,
+    found: &Directories,
+    client: &Client,
+) -> Result<Vec<RefMove>, Fault> {
+    let updates = updates_of(rt.alloc(), &client.before, client.repo.refs())?;
+    check_head(rt, found, updates.as_slice())?;
+    check_names(rt.alloc(), updates.as_slice())?;
+    Ok(updates)
 }
 
 // Fails if an update would change the checked-out branch of a work tree (git-fetch(1),
@@ -321,30 +350,27 @@ where
 }
 
 fn check_head_branch(alloc: Global, head: &Head<Global>, updates: &[RefMove]) -> Result<(), Fault> {
-    match head {
-        Head::Symref(branch) => check_branch(alloc, branch.name(), updates),
-        _ => Ok(()),
-    }
-}
-
-fn check_branch(alloc: Global, branch: &RefName<Global>, updates: &[RefMove]) -> Result<(), Fault> {
+    let Head::Symref(branch) = head else {
+        return Ok(());
+    };
+    let branch = branch.name();
     if updates.iter().any(|update| update.name == *branch) {
-        return Err(Fault::of(
-            alloc,
-            Sentence::CheckedOut {
-                name: branch.as_bytes(),
-            },
-        ));
+        return Err(ref_fault(alloc, branch, CHECKED_OUT));
     }
     Ok(())
+}
+
+// Returns the fault for a ref that is not updated for this reason.
+fn ref_fault(alloc: Global, name: &RefName<Global>, text: &'static str) -> Fault {
+    let name = name.as_bytes();
+    Fault::of(alloc, Sentence::Ref { name, text })
 }
 
 // Fails at the first ref name that is not UTF-8, since a ref with this name has no file name.
 fn check_names(alloc: Global, updates: &[RefMove]) -> Result<(), Fault> {
     for update in updates {
-        let name = update.name.as_bytes();
-        if str::from_utf8(name).is_err() {
-            return Err(Fault::of(alloc, Sentence::NoFileName { name }));
+        if str::from_utf8(update.name.as_bytes()).is_err() {
+            return Err(ref_fault(alloc, &update.name, NO_FILE_NAME));
         }
     }
     Ok(())
@@ -394,8 +420,7 @@ fn check_moved(alloc: Global, fetched: &Fetched<Global>) -> Result<(), Fault> {
     for (index, update) in settled.updates.iter().enumerate() {
         if let RefUpdate::NotForward = update {
             if let Some((name, _id)) = settled.asks.at(index) {
-                let name = name.as_bytes();
-                return Err(Fault::of(alloc, Sentence::NotForward { name }));
+                return Err(ref_fault(alloc, name, NOT_FORWARD));
             }
         }
     }
@@ -403,27 +428,15 @@ fn check_moved(alloc: Global, fetched: &Fetched<Global>) -> Result<(), Fault> {
 }
 
 // Prints the result for each ref, unless `report` is quiet.
-fn report_unless<R: Print + AllocGlobal>(
+fn print_report<R: Print + AllocGlobal>(
     rt: &R,
     report: Report,
     fetched: &Fetched<Global>,
 ) -> Result<(), Fault> {
-    if report.is_quiet {
+    if report.is_quiet || fetched.settled.updates.len() != fetched.settled.asks.len() {
         return Ok(());
     }
-    print_report(rt, report.is_terminal, fetched)
-}
-
-// Prints the result for each ref.
-fn print_report<R: Print + AllocGlobal>(
-    rt: &R,
-    is_terminal: bool,
-    fetched: &Fetched<Global>,
-) -> Result<(), Fault> {
-    if fetched.settled.updates.len() != fetched.settled.asks.len() {
-        return Ok(());
-    }
-    let mut stdout = Output::new(io::writer(rt), is_terminal);
+    let mut stdout = Output::new(io::writer(rt), report.is_terminal);
     let sent = {
         let mut output = ToWrite::new(&mut stdout);
         send_report(rt.alloc(), fetched, &mut output)
@@ -556,7 +569,7 @@ fn check_commits<R: Files>(
         }
         let name = pair.0.as_bytes();
         if name.starts_with(BRANCHES) && !is_commit(alloc, wanted.remote, indexer, &pair.1)? {
-            return Err(Fault::of(alloc, Sentence::NoCommit { name }));
+            return Err(ref_fault(alloc, &pair.0, NO_COMMIT));
         }
         if name == wanted.head_ref {
             check_head_commit(alloc, wanted.remote, client, indexer, &pair.1)?;

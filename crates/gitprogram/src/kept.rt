@@ -21,6 +21,19 @@ struct CachedRepository {
 }
 
 impl CachedRepository {
+    // Returns the cache entry of a repository.
+    fn new<D>(shared: &Shared<'_, D>) -> Result<CachedRepository, AllocError> {
+        let objects = match &shared.objects {
+            Some(ticket) => Rc::downgrade(ticket)?,
+            None => Weak::new(),
+        };
+        Ok(CachedRepository {
+            loaded: shared.loaded.clone()?,
+            objects,
+            changed: shared.changed,
+        })
+    }
+
     fn path(&self) -> &str {
         self.loaded.found.own.as_str()
     }
@@ -70,15 +83,7 @@ impl RepositoryCache {
             let _old = self.entries.remove(index);
         }
         self.make_room(nodes_of(&shared.loaded));
-        let entry = CachedRepository {
-            loaded: shared.loaded.clone()?,
-            objects: match &shared.objects {
-                Some(ticket) => Rc::downgrade(ticket)?,
-                None => Weak::new(),
-            },
-            changed: shared.changed,
-        };
-        match self.entries.push(entry) {
+        match self.entries.push(CachedRepository::new(shared)?) {
             Ok(()) => Ok(()),
             Err(_) => Err(AllocError),
         }

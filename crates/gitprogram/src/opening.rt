@@ -5,7 +5,7 @@ ghost use Rattle.gitprogram.specs.Sharing.{server_in};
 
 use crate::directory::Directories;
 use crate::fault::Fault;
-use crate::sentences::Sentence;
+use crate::sentences::{BUSY, Sentence};
 use ganswer::Server;
 use ggraph::{Head, Refs, Repository};
 use gitobjects::{ObjectFiles, ObjectReader, StoreFault};
@@ -39,7 +39,7 @@ impl NotOpened {
     /// Returns the fault for too many open repositories.
     pub(crate) fn busy(alloc: Global) -> NotOpened {
         NotOpened {
-            fault: Fault::of(alloc, Sentence::Busy),
+            fault: Fault::of(alloc, Sentence::Text(BUSY)),
             form: None,
             is_busy: true,
         }
@@ -126,41 +126,15 @@ pub(crate) fn open_for_ls_refs<F: ObjectFiles>(
     found: &Directories,
     listed: Listed,
 ) -> Result<Extent, NotOpened> {
-    match read_for_ls_refs(alloc, files, found, listed) {
-        Ok(Opened::Tips(tips)) => Ok(Extent::Tips(make_server(alloc, found, tips)?)),
-        Ok(Opened::Whole(whole)) => Ok(Extent::Whole(make_server(alloc, found, whole)?)),
+    let listed = &listed.found;
+    match open_tips(files, alloc, found.common.as_str(), listed) {
+        Ok(Some(tips)) => Ok(Extent::Tips(make_server(alloc, found, tips)?)),
+        Ok(None) => {
+            let (server, _reader) = open_whole(alloc, files, found, &listed.refs, &listed.head)?;
+            Ok(Extent::Whole(server))
+        }
         Err(fault) => Err(not_opened(alloc, found, &fault)),
     }
-}
-
-// A repository that was opened to answer ls-refs.
-#[derive(Drop)]
-enum Opened {
-    // Only the objects that refs point to. Some of them may be missing.
-    Tips(Repository<Global>),
-    // The whole history.
-    Whole(Repository<Global>),
-}
-
-fn read_for_ls_refs<F: ObjectFiles>(
-    alloc: Global,
-    files: &F,
-    found: &Directories,
-    listed: Listed,
-) -> Result<Opened, RepositoryFault<Global>> {
-    let Listed { found: listed } = listed;
-    let path = found.common.as_str();
-    if let Some(tips) = open_tips(files, alloc, path, &listed)? {
-        return Ok(Opened::Tips(tips));
-    }
-    let mut reader = open_reader(alloc, files, path)?;
-    let PeeledRefs {
-        refs,
-        head,
-        peels: _peels,
-    } = listed;
-    let whole = read_history(files, path, &mut reader, &refs, head)?;
-    Ok(Opened::Whole(whole))
 }
 
 fn is_same_head(one: &Head<Global>, other: &Head<Global>) -> bool {
@@ -191,23 +165,35 @@ pub(crate) fn open_history<'f, F: ObjectFiles>(
     found: &Directories,
     tips: &Server<Global>,
 ) -> Result<(Server<Global>, ObjectPacker<'f, F>), NotOpened> {
-    match find_whole(alloc, files, found, tips) {
-        Ok((whole, reader)) => Ok((make_server(alloc, found, whole)?, StorePacker::new(reader))),
+    let (server, reader) = open_whole(alloc, files, found, tips.refs(), tips.head())?;
+    Ok((server, StorePacker::new(reader)))
+}
+
+// Returns a server with the history of these refs and HEAD, and a reader of the repository's
+// objects.
+fn open_whole<'f, F: ObjectFiles>(
+    alloc: Global,
+    files: &'f F,
+    found: &Directories,
+    refs: &Refs<Global>,
+    head: &Head<Global>,
+) -> Result<(Server<Global>, Reader<'f, F>), NotOpened> {
+    match find_whole(alloc, files, found.common.as_str(), refs, head) {
+        Ok((whole, reader)) => Ok((make_server(alloc, found, whole)?, reader)),
         Err(fault) => Err(not_opened(alloc, found, &fault)),
     }
 }
 
-// Returns the history of the refs and HEAD in `tips`, and a reader of the repository's objects.
+// Returns the history of these refs and HEAD, and a reader of the repository's objects.
 fn find_whole<'f, F: ObjectFiles>(
     alloc: Global,
     files: &'f F,
-    found: &Directories,
-    tips: &Server<Global>,
+    path: &str,
+    refs: &Refs<Global>,
+    head: &Head<Global>,
 ) -> Result<(Repository<Global>, Reader<'f, F>), RepositoryFault<Global>> {
-    let path = found.common.as_str();
     let mut reader = open_reader(alloc, files, path)?;
-    let head = tips.head().copy_in(alloc)?;
-    let whole = read_history(files, path, &mut reader, tips.refs(), head)?;
+    let whole = read_history(files, path, &mut reader, refs, head)?;
     Ok((whole, reader))
 }
 
@@ -219,9 +205,11 @@ fn read_history<F: ObjectFiles>(
     path: &str,
     reader: &mut Reader<'_, F>,
     refs: &Refs<Global>,
-    head: Head<Global>,
+    head: &Head<Global>,
 ) -> Result<Repository<Global>, RepositoryFault<Global>> {
-    let commits = read_commit_graph(files, reader.store().allocator(), path)?;
+    let alloc = reader.store().allocator();
+    let head = head.copy_in(alloc)?;
+    let commits = read_commit_graph(files, alloc, path)?;
     let repository = open_refs(reader, &commits, refs, head)?;
     match first_left_out(refs, &repository.refs) {
         Some(id) => Err(RepositoryFault::from(StoreFault::Missing(id))),
@@ -297,25 +285,36 @@ fn open_with_leaves<'f, R: Files, F: ObjectFiles>(
     found: &Directories,
     tips: &Tips<Global>,
 ) -> Result<(Repository<Global>, Reader<'f, F>), RepositoryFault<Global>> {
-    let (mut repository, mut reader) = open(alloc, rt, files, found)?;
-    add_leaves(&mut reader, &mut repository.graph, tips)?;
-    let more = tips.as_slice().len();
-    repository.refs = lead_with_newest(&repository.graph, &repository.refs, more)?;
+    let mut reader = open_reader(alloc, files, found.common.as_str())?;
+    let repository = read_with_leaves(rt, files, found, &mut reader, tips)?;
     Ok((repository, reader))
 }
 
-// Returns the graph, refs and HEAD of a repository, and a reader of its objects.
-fn open<'f, R: Files, F: ObjectFiles>(
-    alloc: Global,
+// Returns the graph, refs and HEAD of a repository, with the refs that `open_client` adds.
+fn read_with_leaves<R: Files, F: ObjectFiles>(
     rt: &R,
-    files: &'f F,
+    files: &F,
     found: &Directories,
-) -> Result<(Repository<Global>, Reader<'f, F>), RepositoryFault<Global>> {
-    let path = found.common.as_str();
-    let mut reader = open_reader(alloc, files, path)?;
-    let commits = read_commit_graph(files, alloc, path)?;
-    let repository = open_repository(&found.refs(alloc, rt), &mut reader, &commits)?;
-    Ok((repository, reader))
+    reader: &mut Reader<'_, F>,
+    tips: &Tips<Global>,
+) -> Result<Repository<Global>, RepositoryFault<Global>> {
+    let mut repository = read_repository(rt, files, found, reader)?;
+    add_leaves(reader, &mut repository.graph, tips)?;
+    let more = tips.as_slice().len();
+    repository.refs = lead_with_newest(&repository.graph, &repository.refs, more)?;
+    Ok(repository)
+}
+
+// Returns the graph, refs and HEAD of a repository.
+fn read_repository<R: Files, F: ObjectFiles>(
+    rt: &R,
+    files: &F,
+    found: &Directories,
+    reader: &mut Reader<'_, F>,
+) -> Result<Repository<Global>, RepositoryFault<Global>> {
+    let alloc = reader.store().allocator();
+    let commits = read_commit_graph(files, alloc, found.common.as_str())?;
+    open_repository(&found.refs(alloc, rt), reader, &commits)
 }
 
 /// Returns a reader of the objects of the Git directory at `path`.

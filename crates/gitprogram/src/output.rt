@@ -3,7 +3,7 @@
 ghost use Rattle.std.specs.Prelude.{◌≤◌, IfOk, length};
 
 use crate::fault::Fault;
-use crate::sentences::Sentence;
+use crate::sentences::{NO_OUTPUT, Sentence};
 use gitwords::{Shown, clean_byte};
 use std::alloc::Global;
 use std::fmt::Display;
@@ -34,13 +34,10 @@ impl<W: Write> Output<W> {
 
     /// Returns the fault for a failed write. The cause is the error of the last one.
     pub(crate) fn take_fault(&mut self, alloc: Global) -> Fault {
-        let error = self.error.take();
-        Fault::of(
-            alloc,
-            Sentence::Output {
-                error: error.as_ref(),
-            },
-        )
+        match self.error.take() {
+            Some(error) => Fault::of_call(alloc, "write to", "standard output", &error),
+            None => Fault::of(alloc, Sentence::Text(NO_OUTPUT)),
+        }
     }
 
     // Writes the front of the bytes.

@@ -31,7 +31,7 @@ enum PacketPosition {
 }
 
 /// The side bands of a pack (gitprotocol-pack(5), "Packfile Data").
-#[derive(Clone, Copy, PartialEq, Eq)]
+#[derive(Clone, Copy)]
 enum Band {
     Pack,
     Text,

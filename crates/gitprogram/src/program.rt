@@ -8,7 +8,7 @@ use crate::fault::Fault;
 use crate::fetching::fetch_remote;
 use crate::listing::list_refs;
 use crate::output::{print, write_line};
-use crate::sentences::Sentence;
+use crate::sentences::{NOT_TEXT, Sentence};
 use crate::serving::serve;
 use crate::uploading::upload_pack;
 use gitwords::{Answer, GitrepoCommand, Stream, read_words};
@@ -44,6 +44,15 @@ where
     let _input = File::open(rt, NULL_DEVICE);
     let _output = File::open(rt, NULL_DEVICE);
     let _errors = File::open(rt, NULL_DEVICE);
+    run_arguments(rt, is_terminal, stderr)
+}
+
+// Runs `gitrepo` with the arguments, and returns the exit status.
+fn run_arguments<R, W>(rt: &R, is_terminal: bool, stderr: &mut W) -> u8
+where
+    R: Env + Files + Input + Print + AllocGlobal + Clock + Net,
+    W: Write + IsTerminal,
+{
     let words = match arguments(rt) {
         Ok(words) => words,
         Err(kind) => return refuse_arguments(rt, kind, stderr),
@@ -72,7 +81,7 @@ fn refuse_arguments<R: AllocGlobal, W: Write>(rt: &R, kind: ErrorKind, errors: &
     if kind == ErrorKind::OutOfMemory {
         return finish(rt.alloc(), Err(Fault::Memory), errors);
     }
-    let fault = Fault::of(rt.alloc(), Sentence::NotText);
+    let fault = Fault::of(rt.alloc(), Sentence::Text(NOT_TEXT));
     let _ = finish(rt.alloc(), Err(fault), errors);
     WRONG_USAGE
 }

@@ -16,7 +16,7 @@ fn send_text<W: Sink>(text: &[u8], writer: &mut PacketWriter<W>) -> Result<(), W
 }
 
 /// The error line for a path that does not name a served repository, as in git-daemon(1).
-pub(crate) const NOT_SERVED: &[u8] = b"access denied or repository not exported: ";
+pub(crate) const ACCESS_DENIED: &[u8] = b"access denied or repository not exported: ";
 
 /// The error line for a refused first line: of an older protocol, for another service, or with a
 /// path that is too long or not printable ASCII.

@@ -42,13 +42,7 @@ impl Remote {
     pub(crate) fn connect<N: Net>(&self, net: &N, alloc: Global) -> Result<N::Stream, Fault> {
         match connect_to(net, self.address.as_str()) {
             Ok(stream) => Ok(stream),
-            Err(error) => Err(Fault::of(
-                alloc,
-                Sentence::Connect {
-                    url: self.url.as_str(),
-                    error: &error,
-                },
-            )),
+            Err(error) => Err(Fault::of_call(alloc, "connect to", self.url.as_str(), &error)),
         }
     }
 

@@ -1,23 +1,24 @@
 //! The repositories of a server, shared by all connections.
 
 use crate::directory::Directories;
-use crate::disk::Disk;
+use crate::disk::{Disk, Ticket};
 use crate::fault::Fault;
 use crate::kept::RepositoryCache;
 use crate::notes::Notes;
-use crate::opening::{Extent, NotOpened, has_refs};
+use crate::opening::{Extent, Listed, NotOpened, has_refs};
 use crate::refusals::{
-    BAD_FIRST_LINE, BUSY, NOT_OPENED, NOT_SERVED, PACK_FAILED, TOO_LARGE_REQUEST,
+    ACCESS_DENIED, BAD_FIRST_LINE, BUSY, NOT_OPENED, PACK_FAILED, TOO_LARGE_REQUEST,
 };
-use crate::sentences::{Sentence, form_text};
+use crate::sentences::{NOT_SERVED, Sentence, form_text};
 use crate::shared::{Loaded, Shared, share};
-use ganswer::ServeFault;
+use ganswer::{ServeFault, Server};
 use ggrammar::{MessageFault, Why};
 use ghello::Hello;
 use gserve::{MAX_ERR_TEXT, err_text};
 use gserver::{ErrText, Host, ServedRepository};
 use std::alloc::{AllocError, Global};
 use std::cell::RefCell;
+use std::rc::Rc;
 use std::time::SystemTime;
 
 /// A value that can close unused object stores.
@@ -74,6 +75,14 @@ impl<'d, D> Repositories<'d, D> {
         }
     }
 
+    // Adds a repository to the cache, unless the cache has it with other refs or another HEAD.
+    fn add_unless_changed(&self, opened: &Shared<'d, D>) -> Result<(), AllocError> {
+        if self.differs_from_cache(opened)? {
+            return Ok(());
+        }
+        self.add_to_cache(opened)
+    }
+
     fn add_to_cache(&self, shared: &Shared<'d, D>) -> Result<(), AllocError> {
         match self.cache.try_borrow_mut() {
             Ok(mut cache) => cache.put(shared),
@@ -84,14 +93,15 @@ impl<'d, D> Repositories<'d, D> {
     // Records why a repository cannot be opened, and returns the error text for the client.
     fn refuse(&self, cause: NotOpened) -> ErrText {
         let mut text = ErrText::new();
-        match cause.form {
+        let words = match cause.form {
             Some(form) => {
                 text.add(b"upload-pack: the repository ");
-                text.add(form_text(form).as_bytes());
+                form_text(form).as_bytes()
             }
-            None if cause.is_busy => text.add(BUSY),
-            None => text.add(NOT_OPENED),
-        }
+            None if cause.is_busy => BUSY,
+            None => NOT_OPENED,
+        };
+        text.add(words);
         self.notes.note_fault(cause.fault);
         text
     }
@@ -103,12 +113,12 @@ impl<'d, D: Disk> Repositories<'d, D> {
     fn find_path(&self, path: &[u8]) -> Result<Directories, ErrText> {
         let fault = match self.disk.find(path) {
             Ok(Some(found)) => return Ok(found),
-            Ok(None) => Fault::of(self.alloc, Sentence::NotServed),
+            Ok(None) => Fault::of(self.alloc, Sentence::Text(NOT_SERVED)),
             Err(fault) => fault,
         };
         self.notes.note_fault(fault);
         let mut text = ErrText::new();
-        text.add(NOT_SERVED);
+        text.add(ACCESS_DENIED);
         text.add(path);
         Err(text)
     }
@@ -122,6 +132,11 @@ impl<'d, D: Disk> Repositories<'d, D> {
                 return Ok(shared.without_objects());
             }
         }
+        self.list_now(found, listed)
+    }
+
+    // Opens the repository with these refs and HEAD for ls-refs, and adds it to the cache.
+    fn list_now(&self, found: Directories, listed: Listed) -> Result<Shared<'d, D>, NotOpened> {
         let extent = self.disk.open_for_ls_refs(&found, listed)?;
         let loaded = share(self.alloc, Loaded { found, extent })?;
         let shared = Shared::new(self.alloc, self.disk, loaded, None, None)?;
@@ -141,9 +156,7 @@ impl<'d, D: Disk> Repositories<'d, D> {
             return Ok(known);
         }
         let opened = self.open_now(&known, changed)?;
-        if !self.differs_from_cache(&opened)? {
-            self.add_to_cache(&opened)?;
-        }
+        self.add_unless_changed(&opened)?;
         Ok(opened)
     }
 
@@ -156,14 +169,21 @@ impl<'d, D: Disk> Repositories<'d, D> {
         let found = &repo.loaded.found;
         let (loaded, ticket) = match &repo.loaded.extent {
             Extent::Whole(_) => (repo.loaded.clone()?, self.disk.open_objects(found)?),
-            Extent::Tips(tips) => {
-                let (server, ticket) = self.disk.open_history(found, tips)?;
-                let found = found.copy_in(self.alloc)?;
-                let extent = Extent::Whole(server);
-                (share(self.alloc, Loaded { found, extent })?, ticket)
-            }
+            Extent::Tips(tips) => self.load_history(found, tips)?,
         };
         Ok(Shared::new(self.alloc, self.disk, loaded, Some(ticket), changed)?)
+    }
+
+    // Opens the objects of a repository, and reads the history of the refs and HEAD in `tips`.
+    fn load_history(
+        &self,
+        found: &Directories,
+        tips: &Server<Global>,
+    ) -> Result<(Rc<Loaded, Global>, Ticket), NotOpened> {
+        let (server, ticket) = self.disk.open_history(found, tips)?;
+        let found = found.copy_in(self.alloc)?;
+        let extent = Extent::Whole(server);
+        Ok((share(self.alloc, Loaded { found, extent })?, ticket))
     }
 }
 
@@ -192,27 +212,33 @@ impl<'d, D: Disk> Host<Global, Shared<'d, D>> for Repositories<'d, D> {
     }
 
     fn words(&self, fault: &ServeFault) -> ErrText {
-        let mut text = ErrText::new();
-        match fault {
+        let words = match fault {
             ServeFault::Request(
                 MessageFault {
                     why: Why::Limit,
                     ..
                 },
-            ) => text.add(TOO_LARGE_REQUEST),
-            ServeFault::Pack(_) => text.add(PACK_FAILED),
+            ) => TOO_LARGE_REQUEST,
+            ServeFault::Pack(_) => PACK_FAILED,
             ServeFault::Request(
                 MessageFault {
                     why: Why::BadText,
                     ..
                 },
-            ) if self.notes.is_first() => text.add(BAD_FIRST_LINE),
-            _ => {
-                let mut line = [0; MAX_ERR_TEXT];
-                let length = err_text(fault, &mut line);
-                text.add(&line[..length]);
-            }
-        }
+            ) if self.notes.is_first() => BAD_FIRST_LINE,
+            _ => return default_text(fault),
+        };
+        let mut text = ErrText::new();
+        text.add(words);
         text
     }
+}
+
+// Returns the error text of `gserve` for a fault.
+fn default_text(fault: &ServeFault) -> ErrText {
+    let mut line = [0; MAX_ERR_TEXT];
+    let length = err_text(fault, &mut line);
+    let mut text = ErrText::new();
+    text.add(&line[..length]);
+    text
 }

@@ -10,29 +10,82 @@ use gitobjects::{Cause, FileFault, StoreFault};
 use gitrefs::RefFault;
 use gitrepository::{FormFault, RepositoryFault};
 use gitwords::{Shown, clean_byte};
-use gname::{MAX_ID_TEXT, OUT_OF_MEMORY_TEXT, Oid};
+use gname::OUT_OF_MEMORY_TEXT;
 use gpkt::PacketFault;
 use gtcp::MAX_SILENCE;
 use std::alloc::Global;
 use std::io::ErrorKind;
 use std::{fmt, io};
 
+/// The message for an argument that is not UTF-8.
+pub(crate) const NOT_TEXT: &str = "an argument is not UTF-8: gitrepo takes no other names";
+
+/// The message for a client whose path does not name a served repository.
+pub(crate) const NOT_SERVED: &str = "no repository is served at this path";
+
+/// The message for a lost connection to a client.
+pub(crate) const CLIENT_LOST: &str = "the connection to the client was lost";
+
+/// The message for too many repositories with open objects.
+pub(crate) const BUSY: &str = "the objects of too many repositories are open";
+
+/// The message for a client that did not send its first line or a request in time.
+pub(crate) const CLIENT_SILENT: &str = "the client sent no request in its time";
+
+/// The message for a client that accepted no byte in time.
+pub(crate) const CLIENT_STALLED: &str = "the client took nothing in its time";
+
+/// The message for a connection that exceeded its time limit.
+pub(crate) const CLIENT_SLOW: &str = "the connection took too long";
+
+/// The message for a client of `upload-pack` that did not request version 2.
+pub(crate) const NO_VERSION_2: &str =
+    "GIT_PROTOCOL does not ask for version 2: use git -c protocol.version=2, \
+    and let sshd accept GIT_PROTOCOL";
+
+/// The message for a failed write to standard output without an error of the system.
+pub(crate) const NO_OUTPUT: &str = "cannot write to standard output";
+
+/// What is wrong with a path that does not lead to a Git repository.
+pub(crate) const NO_REPOSITORY: &str =
+    "is not a Git repository: name a bare repository or a work tree";
+
+/// What is wrong with the destination of a clone that exists and is not an empty directory.
+pub(crate) const OCCUPIED: &str = "exists and is not an empty directory: name a new one";
+
+/// Why a fetch does not update the checked-out branch.
+pub(crate) const CHECKED_OUT: &str = "is checked out: fetch into another ref";
+
+/// Why a fetch does not move a ref if the update is not a fast-forward.
+pub(crate) const NOT_FORWARD: &str =
+    "is not moved, as this is no fast-forward: put + before its refspec";
+
+/// Why a fetch does not set a branch to an object that is not a commit.
+pub(crate) const NO_COMMIT: &str =
+    "would be at a tag, a tree or a blob, but a branch is at a commit: fetch into refs/tags/";
+
+/// Why a fetch does not update a ref whose name is not UTF-8.
+pub(crate) const NO_FILE_NAME: &str = "is not UTF-8: fetch into another ref";
+
 /// An error message with its parameters.
 #[derive(Clone, Copy)]
 pub(crate) enum Sentence<'a> {
-    /// An argument is not UTF-8.
-    NotText,
-    /// A path does not lead to a Git repository.
-    NoRepository {
+    /// A message without parameters.
+    Text(&'static str),
+    /// A path, and what is wrong with it.
+    Path {
         path: &'a str,
+        text: &'static str,
     },
-    /// The destination of a clone exists and is not an empty directory.
-    Occupied {
-        path: &'a str,
+    /// A ref, and why it is not updated.
+    Ref {
+        name: &'a [u8],
+        text: &'static str,
     },
-    /// The system cannot open a file.
-    Open {
-        path: &'a str,
+    /// A system call failed. The message begins with `cannot`, the call and the name.
+    Refused {
+        call: &'static str,
+        name: &'a str,
         error: &'a io::Error,
     },
     /// Reading or writing a repository failed.
@@ -46,25 +99,9 @@ pub(crate) enum Sentence<'a> {
         name: &'a [u8],
         fault: &'a RepositoryFault<Global>,
     },
-    /// The fetch would update the checked-out branch.
-    CheckedOut {
-        name: &'a [u8],
-    },
-    /// A ref was not moved because the update is not a fast-forward.
-    NotForward {
-        name: &'a [u8],
-    },
-    /// The fetch would set a branch to an object that is not a commit.
-    NoCommit {
-        name: &'a [u8],
-    },
     /// The HEAD of a clone would point to an object that is not a commit.
     NoHeadCommit {
         url: &'a str,
-    },
-    /// The fetch would update a ref whose name is not UTF-8.
-    NoFileName {
-        name: &'a [u8],
     },
     /// A repository cannot be served.
     Build {
@@ -79,11 +116,6 @@ pub(crate) enum Sentence<'a> {
     /// The path of the URL is not allowed in the first line of a connection.
     Address {
         url: &'a str,
-    },
-    /// The server cannot be reached.
-    Connect {
-        url: &'a str,
-        error: &'a io::Error,
     },
     /// The conversation with the server failed.
     Fetch {
@@ -100,83 +132,29 @@ pub(crate) enum Sentence<'a> {
         url: &'a str,
         fault: &'a RepositoryFault<Global>,
     },
-    /// The program cannot listen at the address.
-    Listen {
-        address: &'a str,
-        error: &'a io::Error,
-    },
-    /// The program cannot accept connections, because a system call failed.
-    Accept {
-        error: &'a io::Error,
-    },
-    /// A client's path does not name a served repository.
-    NotServed,
     /// A client's request is refused.
     Request(&'a ServeFault),
-    /// The connection to the client was lost.
-    ClientLost,
-    /// The objects of too many repositories are open.
-    Busy,
-    /// The client did not send its first line or a request in time.
-    ClientSilent,
-    /// The client accepted no byte in time.
-    ClientStalled,
-    /// The connection exceeded its time limit.
-    ClientSlow,
-    /// The client of `upload-pack` did not request version 2.
-    NoVersion2,
-    /// Writing to standard output failed.
-    Output {
-        error: Option<&'a io::Error>,
-    },
 }
 
 impl fmt::Display for Sentence<'_> {
     fn fmt<W: fmt::Write>(&self, f: &mut fmt::Formatter<W>) -> fmt::Result {
         match self {
-            Sentence::NotText => f.write_str(
-                "an argument is not UTF-8: gitrepo takes no other names",
-            ),
-            Sentence::NoRepository { path } => write!(
-                f,
-                "{path} is not a Git repository: name a bare repository or a work tree"
-            ),
-            Sentence::Occupied { path } => {
-                write!(
-                    f,
-                    "{path} exists and is not an empty directory: name a new one"
-                )
-            }
-            Sentence::Open { path, error } => write_refused("open ", path, error, f),
+            Sentence::Text(text) => f.write_str(text),
+            Sentence::Path { path, text } => write!(f, "{path} {text}"),
+            Sentence::Ref { name, text } => write!(f, "{} {text}", Clean(name)),
+            Sentence::Refused { call, name, error } => write_refused(call, name, error, f),
             Sentence::Repository { path, fault } => write_repository(path, fault, f),
             Sentence::BrokenRef { path, name, fault } => write_broken_ref(path, name, fault, f),
-            Sentence::CheckedOut { name } => {
-                write!(f, "{} is checked out: fetch into another ref", Clean(name))
-            }
-            Sentence::NotForward { name } => write!(
-                f,
-                "{} is not moved, as this is no fast-forward: put + before its refspec",
-                Clean(name)
-            ),
-            Sentence::NoCommit { name } => write!(
-                f,
-                "{} would be at a tag, a tree or a blob, but a branch is at a commit: fetch into refs/tags/",
-                Clean(name)
-            ),
             Sentence::NoHeadCommit { url } => write!(
                 f,
                 "HEAD of {url} is at a tree or a blob: make a repository by 'git init --bare', and fetch into that"
             ),
-            Sentence::NoFileName { name } => {
-                write!(f, "{} is not UTF-8: fetch into another ref", Clean(name))
-            }
-            Sentence::Build { path, fault } => write!(f, "cannot serve {path}: {fault}"),
-            Sentence::Client { path, fault } => write_client_repo(path, fault, f),
+            Sentence::Build { path, fault } => write_fault("cannot serve", path, *fault, f),
+            Sentence::Client { path, fault } => write_fault("cannot fetch into", path, *fault, f),
             Sentence::Address { url } => write!(
                 f,
                 "cannot ask for {url}: its path must have ASCII characters alone, 1,000 at most"
             ),
-            Sentence::Connect { url, error } => write_refused("connect to ", url, error, f),
             Sentence::Fetch { url, fault } => write_fetch(url, fault, f),
             Sentence::NoRef { url, name } => write!(
                 f,
@@ -186,36 +164,30 @@ impl fmt::Display for Sentence<'_> {
             Sentence::RefusedPack { url, fault } => {
                 write!(f, "the pack from {url} is refused: {fault}")
             }
-            Sentence::Listen { address, error } => write_refused("listen at ", address, error, f),
-            Sentence::Accept { error } => write_refused("accept ", "connections", error, f),
-            Sentence::NotServed => f.write_str("no repository is served at this path"),
             Sentence::Request(fault) => write_request(fault, f),
-            Sentence::ClientLost => f.write_str("the connection to the client was lost"),
-            Sentence::Busy => f.write_str("the objects of too many repositories are open"),
-            Sentence::ClientSilent => f.write_str("the client sent no request in its time"),
-            Sentence::ClientStalled => f.write_str("the client took nothing in its time"),
-            Sentence::ClientSlow => f.write_str("the connection took too long"),
-            Sentence::NoVersion2 => f.write_str(
-                "GIT_PROTOCOL does not ask for version 2: use git -c protocol.version=2, \
-                and let sshd accept GIT_PROTOCOL",
-            ),
-            Sentence::Output { error: Some(error) } => {
-                write_refused("write to ", "standard output", error, f)
-            }
-            Sentence::Output { error: None } => f.write_str("cannot write to standard output"),
         }
     }
 }
 
 // Writes the message for a failed system call.
-fn write_refused<W: fmt::Write>(
+fn write_refused<W: fmt::Write, D: fmt::Display>(
     call: &str,
-    name: &str,
+    name: &D,
     error: &io::Error,
     f: &mut fmt::Formatter<W>,
 ) -> fmt::Result {
-    write!(f, "cannot {call}{name}: ")?;
+    write!(f, "cannot {call} {name}: ")?;
     write_reason(error, f)
+}
+
+// Writes a message that begins with this text and the name of a repository, and ends with a fault.
+fn write_fault<W: fmt::Write, D: fmt::Display>(
+    text: &str,
+    name: &str,
+    fault: &D,
+    f: &mut fmt::Formatter<W>,
+) -> fmt::Result {
+    write!(f, "{text} {name}: {fault}")
 }
 
 // Writes the reason for a failed system call: a text for the kind of the error, or the error itself
@@ -238,10 +210,10 @@ fn write_repository<W: fmt::Write>(
     match fault {
         RepositoryFault::Memory => f.write_str(OUT_OF_MEMORY_TEXT),
         RepositoryFault::Refs(fault) => write_refs(path, fault, f),
-        RepositoryFault::File { path, error } => write_refused("write ", path.as_str(), error, f),
+        RepositoryFault::File { path, error } => write_refused("write", path, error, f),
         RepositoryFault::Store(StoreFault::File(fault)) => write_store_file(fault, f),
         RepositoryFault::Form { fault, .. } => write!(f, "{path} {}", form_text(*fault)),
-        _ if fault.is_of_spool() => write!(f, "cannot fetch into {path}: {fault}"),
+        _ if fault.is_of_spool() => write_fault("cannot fetch into", path, fault, f),
         RepositoryFault::Objects => write!(
             f,
             "{path} has more than {} commits and tags: use git",
@@ -256,17 +228,14 @@ fn write_store_file<W: fmt::Write>(
     fault: &FileFault<Global>,
     f: &mut fmt::Formatter<W>,
 ) -> fmt::Result {
-    match fault.cause {
-        Cause::Open(ErrorKind::NotFound) | Cause::List(ErrorKind::NotFound) => {
-            write!(f, "cannot open {}: there is none", fault.path)
+    let reason = match fault.cause {
+        Cause::Open(ErrorKind::NotFound) | Cause::List(ErrorKind::NotFound) => "there is none",
+        Cause::Open(ErrorKind::Other | ErrorKind::Uncategorized) => {
+            "if too many files are open, 'git gc' makes one pack of all"
         }
-        Cause::Open(ErrorKind::Other | ErrorKind::Uncategorized) => write!(
-            f,
-            "cannot open {}: if too many files are open, 'git gc' makes one pack of all",
-            fault.path
-        ),
-        _ => fmt::Display::fmt(fault, f),
-    }
+        _ => return fmt::Display::fmt(fault, f),
+    };
+    write!(f, "cannot open {}: {reason}", fault.path)
 }
 
 /// Returns the text about an unsupported format. In a message, this text follows the name of the
@@ -293,12 +262,21 @@ fn write_broken_ref<W: fmt::Write>(
     fault: &RepositoryFault<Global>,
     f: &mut fmt::Formatter<W>,
 ) -> fmt::Result {
-    write!(f, "{path}: {}: ", Clean(name))?;
     match fault {
-        RepositoryFault::Refs(RefFault::File { cause, .. }) => write!(f, "{cause}")?,
-        _ => write!(f, "{fault}")?,
+        RepositoryFault::Refs(RefFault::File { cause, .. }) => {
+            write_broken(path, name, cause, f)
+        }
+        _ => write_broken(path, name, fault, f),
     }
-    f.write_str(": 'git fsck' says more")
+}
+
+fn write_broken<W: fmt::Write, D: fmt::Display>(
+    path: &str,
+    name: &[u8],
+    cause: &D,
+    f: &mut fmt::Formatter<W>,
+) -> fmt::Result {
+    write!(f, "{path}: {}: {cause}: 'git fsck' says more", Clean(name))
 }
 
 fn write_refs<W: fmt::Write>(
@@ -314,10 +292,7 @@ fn write_refs<W: fmt::Write>(
         path: path.as_str(),
     };
     match cause {
-        gitrefs::Cause::System(error) => {
-            write!(f, "cannot read or write {file}: ")?;
-            write_reason(error, f)
-        }
+        gitrefs::Cause::System(error) => write_refused("read or write", &file, error, f),
         gitrefs::Cause::Locked => write!(
             f,
             "{file} is locked: wait for the other process, or remove {file}.lock if there is none"
@@ -331,10 +306,17 @@ fn write_refs<W: fmt::Write>(
             "{file}: there are more than {} refs: use git",
             Thousands(MAX_REFS)
         ),
+        cause => write!(f, "{file}: {cause}{}", remedy_for(cause)),
+    }
+}
+
+// Returns the text that follows the cause of a fault of a ref file.
+fn remedy_for(cause: &gitrefs::Cause) -> &'static str {
+    match cause {
         gitrefs::Cause::Conflict | gitrefs::Cause::Symbolic | gitrefs::Cause::Utf8 => {
-            write!(f, "{file}: {cause}: fetch into another ref")
+            ": fetch into another ref"
         }
-        cause => write!(f, "{file}: {cause}"),
+        _ => "",
     }
 }
 
@@ -352,14 +334,6 @@ impl fmt::Display for RefFile<'_> {
             None => f.write_str(self.path),
         }
     }
-}
-
-fn write_client_repo<W: fmt::Write>(
-    path: &str,
-    fault: &RepoFault<Global>,
-    f: &mut fmt::Formatter<W>,
-) -> fmt::Result {
-    write!(f, "cannot fetch into {path}: {fault}")
 }
 
 // ---- faults of a conversation with a server
@@ -394,10 +368,10 @@ fn write_client<W: fmt::Write>(
             f,
             "there are more than {MAX_SPECS} refspecs: give fewer at a time"
         ),
-        ClientFault::StrangeAck { id } => {
-            f.write_str("the server acknowledges a commit that it was not asked for: ")?;
-            write_id(id, f)
-        }
+        ClientFault::StrangeAck { id } => write!(
+            f,
+            "the server acknowledges a commit that it was not asked for: {id}"
+        ),
         ClientFault::TooManyWants => write!(
             f,
             "more than {} objects are wanted at once: fetch fewer refs at a time",
@@ -410,10 +384,10 @@ fn write_client<W: fmt::Write>(
 
 fn write_repo<W: fmt::Write>(fault: &RepoFault<Global>, f: &mut fmt::Formatter<W>) -> fmt::Result {
     match fault {
-        RepoFault::NotConnected { missing } => {
-            f.write_str("the server did not send an object that it owes: ")?;
-            write_id(missing, f)
-        }
+        RepoFault::NotConnected { missing } => write!(
+            f,
+            "the server did not send an object that it owes: {missing}"
+        ),
         RepoFault::Graph(GraphFault::TooMany) => write!(
             f,
             "there are more than {} commits and tags",
@@ -434,9 +408,6 @@ fn write_message<W: fmt::Write>(frame: u64, why: &Why, f: &mut fmt::Formatter<W>
         Why::RemoteErr(text) | Why::RemoteFatal(text) => {
             write!(f, "the server says: {}", Clean(text.as_bytes()))
         }
-        Why::Ended | Why::Line(PacketFault::Truncated) => {
-            f.write_str("the connection ended early: try again")
-        }
         Why::Line(PacketFault::Io | PacketFault::Failed) => write!(
             f,
             "the connection was lost, or the server was silent for {MAX_SILENCE} seconds: try again"
@@ -446,17 +417,29 @@ fn write_message<W: fmt::Write>(frame: u64, why: &Why, f: &mut fmt::Formatter<W>
             "the pack has 4 GiB or more, or there are more than {} refs: fetch fewer refs at a time",
             Thousands(MAX_REFS)
         ),
-        Why::Format => f.write_str("its object format is not SHA-1: use git"),
-        Why::BadText if frame == 0 => {
-            f.write_str(
-                "the server does not speak protocol version 2, or its repository is shallow: use git",
-            )
+        _ => match packet_text(frame, why) {
+            Some(text) => f.write_str(text),
+            None => write!(
+                f,
+                "packet {frame} of the server's answer is malformed: {why}"
+            ),
+        },
+    }
+}
+
+// Returns the message for a malformed or unexpected packet, or `None` if the message has
+// parameters.
+fn packet_text(frame: u64, why: &Why) -> Option<&'static str> {
+    match why {
+        Why::Ended | Why::Line(PacketFault::Truncated) => {
+            Some("the connection ended early: try again")
         }
-        Why::Memory | Why::Line(PacketFault::Memory) => f.write_str(OUT_OF_MEMORY_TEXT),
-        _ => write!(
-            f,
-            "packet {frame} of the server's answer is malformed: {why}"
+        Why::Format => Some("its object format is not SHA-1: use git"),
+        Why::BadText if frame == 0 => Some(
+            "the server does not speak protocol version 2, or its repository is shallow: use git",
         ),
+        Why::Memory | Why::Line(PacketFault::Memory) => Some(OUT_OF_MEMORY_TEXT),
+        _ => None,
     }
 }
 
@@ -466,8 +449,7 @@ fn write_request<W: fmt::Write>(fault: &ServeFault, f: &mut fmt::Formatter<W>) -
     match fault {
         ServeFault::Request(fault) => write_request_message(fault.frame, &fault.why, f),
         ServeFault::NotOurs { id } => {
-            f.write_str("the client wants an object that no ref reaches: ")?;
-            write_id(id, f)
+            write!(f, "the client wants an object that no ref reaches: {id}")
         }
         ServeFault::Pack(PackFault::TooLarge) => {
             f.write_str("the pack would have 4 GiB or more: fetch fewer refs at a time")
@@ -482,17 +464,16 @@ fn write_request_message<W: fmt::Write>(
     why: &Why,
     f: &mut fmt::Formatter<W>,
 ) -> fmt::Result {
-    match why {
-        Why::Ended | Why::Line(PacketFault::Truncated) => {
-            f.write_str("the client ended the connection early")
-        }
+    let text = match why {
+        Why::Ended | Why::Line(PacketFault::Truncated) => "the client ended the connection early",
         Why::Line(PacketFault::Io | PacketFault::Failed) => {
-            f.write_str("the connection to the client was lost, or its time was over")
+            "the connection to the client was lost, or its time was over"
         }
-        Why::Limit => f.write_str("the request has too many wants, haves or prefixes of ref names"),
-        Why::Memory | Why::Line(PacketFault::Memory) => f.write_str(OUT_OF_MEMORY_TEXT),
-        _ => write!(f, "packet {frame} of the request is refused: {why}"),
-    }
+        Why::Limit => "the request has too many wants, haves or prefixes of ref names",
+        Why::Memory | Why::Line(PacketFault::Memory) => OUT_OF_MEMORY_TEXT,
+        _ => return write!(f, "packet {frame} of the request is refused: {why}"),
+    };
+    f.write_str(text)
 }
 
 // ---- helpers
@@ -517,12 +498,6 @@ fn clean_char(byte: u8) -> char {
         b'\n' | b'\t' => '?',
         byte => char::from(byte),
     }
-}
-
-fn write_id<W: fmt::Write>(id: &Oid, f: &mut fmt::Formatter<W>) -> fmt::Result {
-    let mut digits = [0; MAX_ID_TEXT];
-    let count = id.to_hex(&mut digits);
-    f.write_str(str::from_utf8(&digits[..count]).unwrap_or(""))
 }
 
 // A number with thousands separators.

@@ -8,7 +8,6 @@ use crate::notes::Notes;
 use crate::output::{print, write_line};
 use crate::refusals::{ADDRESS_LIMIT, FULL};
 use crate::repositories::{ClosesStores, Repositories};
-use crate::sentences::Sentence;
 use crate::shared::{RecordsFault, Shared};
 use crate::stored::{ServedFrom, Stored};
 use crate::visits::{Held, begin, log_ended};
@@ -34,19 +33,15 @@ where
     check_base(rt, args.base)?;
     let listener = match listen(rt, args.listen) {
         Ok(listener) => listener,
-        Err(error) => return Err(Fault::of(
-            rt.alloc(),
-            Sentence::Listen {
-                address: args.listen,
-                error: &error,
-            },
-        )),
+        Err(error) => {
+            return Err(Fault::of_call(rt.alloc(), "listen at", args.listen, &error));
+        }
     };
     announce(rt, &listener)?;
     let files = StoredFiles::new(rt);
     match serve_files(rt, &files, args, listener, errors) {
         Ok(()) => Ok(()),
-        Err(error) => Err(Fault::of(rt.alloc(), Sentence::Accept { error: &error })),
+        Err(error) => Err(Fault::of_call(rt.alloc(), "accept", "connections", &error)),
     }
 }
 
@@ -246,6 +241,6 @@ fn announce<R: Print + AllocGlobal>(rt: &R, listener: &TcpListener) -> Result<()
             let line = format!(in rt.alloc(); "listening {port}\n")?;
             print(rt, line.as_bytes())
         }
-        Err(error) => Err(Fault::of(rt.alloc(), Sentence::Accept { error: &error })),
+        Err(error) => Err(Fault::of_call(rt.alloc(), "accept", "connections", &error)),
     }
 }

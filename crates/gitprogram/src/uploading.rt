@@ -11,10 +11,10 @@ use crate::limits::LIMITS;
 use crate::notes::Notes;
 use crate::refusals::send_error;
 use crate::repositories::Repositories;
-use crate::sentences::Sentence;
+use crate::sentences::{NO_VERSION_2, Sentence};
 use crate::shared::{RecordsFault, Shared};
 use crate::stored::{ServedFrom, Stored};
-use crate::visits::{begin, fault_of_visit};
+use crate::visits::{Outcome, begin, outcome_of};
 use gevents::End;
 use gitobjects::StoredFiles;
 use gparts::PartPacker;
@@ -30,7 +30,7 @@ use std::{env, io};
 pub(crate) const REPLY_BUFFER: usize = 65_536;
 
 // The error line for a client with an older protocol.
-const NO_VERSION_2: &[u8] =
+const OLD_PROTOCOL: &[u8] =
     b"gitrepo serves protocol version 2 alone: use git -c protocol.version=2";
 
 // The error line if there is no repository at the path.
@@ -42,10 +42,10 @@ where
     R: Env + Files + Input + Print + AllocGlobal,
 {
     let alloc = rt.alloc();
-    let (Ok(mut reader), Ok(mut writer)) = (
-        BufReader::new(alloc, rt.reader()),
-        BufWriter::with_capacity(alloc, REPLY_BUFFER, io::writer(rt)),
-    ) else {
+    let Ok(mut reader) = BufReader::new(alloc, rt.reader()) else {
+        return Err(Fault::Memory);
+    };
+    let Ok(mut writer) = BufWriter::with_capacity(alloc, REPLY_BUFFER, io::writer(rt)) else {
         return Err(Fault::Memory);
     };
     let mut source = FromRead::new(&mut reader);
@@ -67,8 +67,8 @@ where
     R: Env + Files + AllocGlobal,
 {
     if !has_version_2(rt) {
-        let _ = send_error(NO_VERSION_2, sink);
-        return Err(Fault::of(rt.alloc(), Sentence::NoVersion2));
+        let _ = send_error(OLD_PROTOCOL, sink);
+        return Err(Fault::of(rt.alloc(), Sentence::Text(NO_VERSION_2)));
     }
     let path = expand_home(rt, dir)?;
     match find_repository(rt, path.as_str()) {
@@ -131,7 +131,8 @@ where
         Err(TalkFault::Memory) => End::Memory,
         Err(TalkFault::Io) => End::Lost,
     };
-    match fault_of_visit::<H, K>(alloc, connection, end) {
+    let Outcome { fault, .. } = outcome_of::<H, K>(alloc, connection, end);
+    match fault {
         Some(fault) => Err(fault),
         None => Ok(()),
     }

@@ -5,7 +5,7 @@ ghost use Rattle.gtalk.specs.Talks.{no_talk};
 use crate::fault::Fault;
 use crate::notes::Notes;
 use crate::output::write_line;
-use crate::sentences::{Clean, Sentence};
+use crate::sentences::{CLIENT_LOST, CLIENT_SILENT, CLIENT_SLOW, CLIENT_STALLED, Clean, Sentence};
 use crate::shared::RecordsFault;
 use crate::visitor::Visitor;
 use gdialogue::Dialogue;
@@ -42,6 +42,36 @@ where
     Dialogue::new(Visitor::new(side, notes))
 }
 
+/// The outcome of a connection.
+#[derive(Drop)]
+pub(crate) struct Outcome {
+    // The requested path, or an empty text if the client sent no path.
+    path: Vec<u8>,
+    // The number of requests received.
+    requests: u32,
+    /// The fault of the connection, or `None` if the connection ended without a fault.
+    pub(crate) fault: Option<Fault>,
+}
+
+/// Returns the outcome of a connection that ended.
+pub(crate) fn outcome_of<H, K>(
+    alloc: Global,
+    connection: Connection<Held<'_, H, K>, Global>,
+    end: End,
+) -> Outcome
+where
+    H: Host<Global, K>,
+    K: ServedRepository<Global> + PartPacker<Global> + RecordsFault + Drop,
+{
+    let visitor = connection.into_conversation().into_side();
+    let (side, path, noted) = visitor.into_parts();
+    Outcome {
+        path,
+        requests: side.requests(),
+        fault: fault_of(alloc, &side, noted, end),
+    }
+}
+
 /// Writes the log line for an ended connection.
 pub(crate) fn log_ended<H, K, E>(
     alloc: Global,
@@ -61,33 +91,13 @@ where
         took,
         ..
     } = ended;
-    let visitor = connection.into_conversation().into_side();
-    let (side, path, noted) = visitor.into_parts();
-    let fault = fault_of(alloc, &side, noted, end);
     let line = Line {
         address,
-        path: path.as_slice(),
-        requests: side.requests(),
+        outcome: &outcome_of(alloc, connection, end),
         bytes: sent,
         took,
-        fault: fault.as_ref(),
     };
     write_line(alloc, &line, errors);
-}
-
-/// Returns the fault of a connection that ended, or `None` if the connection ended without a fault.
-pub(crate) fn fault_of_visit<H, K>(
-    alloc: Global,
-    connection: Connection<Held<'_, H, K>, Global>,
-    end: End,
-) -> Option<Fault>
-where
-    H: Host<Global, K>,
-    K: ServedRepository<Global> + PartPacker<Global> + RecordsFault + Drop,
-{
-    let visitor = connection.into_conversation().into_side();
-    let (side, _path, noted) = visitor.into_parts();
-    fault_of(alloc, &side, noted, end)
 }
 
 // Returns the fault of a failed connection, or `None` if the connection ended without a fault. If
@@ -104,15 +114,15 @@ fn fault_of<H, K: RecordsFault>(
     if let Some(fault) = fault_of_side(alloc, side) {
         return Some(fault);
     }
-    let sentence = match end {
+    let text = match end {
         End::Over => return None,
-        End::Silent => Sentence::ClientSilent,
-        End::Stalled => Sentence::ClientStalled,
-        End::Overdue => Sentence::ClientSlow,
-        End::Lost => Sentence::ClientLost,
+        End::Silent => CLIENT_SILENT,
+        End::Stalled => CLIENT_STALLED,
+        End::Overdue => CLIENT_SLOW,
+        End::Lost => CLIENT_LOST,
         End::Memory => return Some(Fault::Memory),
     };
-    Some(Fault::of(alloc, sentence))
+    Some(Fault::of(alloc, Sentence::Text(text)))
 }
 
 // Returns the recorded fault of the repository, or the fault of a refused request if the repository
@@ -132,35 +142,39 @@ fn fault_of_side<H, K: RecordsFault>(
 
 // The log line for a connection.
 #[derive(Clone, Copy)]
-struct Line<'p, 'f> {
+struct Line<'o> {
     address: SocketAddr,
-    // The requested path, or an empty slice if the client sent no path.
-    path: &'p [u8],
-    // The number of requests received.
-    requests: u32,
+    outcome: &'o Outcome,
     // The number of bytes sent.
     bytes: u64,
     // The duration of the connection.
     took: time::Duration,
-    fault: Option<&'f Fault>,
 }
 
-impl fmt::Display for Line<'_, '_> {
+impl fmt::Display for Line<'_> {
     fn fmt<W: fmt::Write>(&self, f: &mut fmt::Formatter<W>) -> fmt::Result {
         let address = self.address;
-        let path = Clean(path_shown(self.path));
-        let requests = self.requests;
+        let path = Clean(path_shown(self.outcome.path.as_slice()));
+        write!(f, "{address} {path} ")?;
+        self.write_counts(f)?;
+        match &self.outcome.fault {
+            None => Ok(()),
+            Some(fault) => write!(f, ": {fault}"),
+        }
+    }
+}
+
+impl Line<'_> {
+    // Writes the numbers of requests and bytes, and the duration.
+    fn write_counts<W: fmt::Write>(&self, f: &mut fmt::Formatter<W>) -> fmt::Result {
+        let requests = self.outcome.requests;
         let bytes = self.bytes;
         let seconds = self.took.as_secs();
         let milliseconds = self.took.subsec_millis();
         write!(
             f,
-            "{address} {path} {requests} requests {bytes} bytes {seconds}.{milliseconds:03} s"
-        )?;
-        match self.fault {
-            None => Ok(()),
-            Some(fault) => write!(f, ": {fault}"),
-        }
+            "{requests} requests {bytes} bytes {seconds}.{milliseconds:03} s"
+        )
     }
 }
 
