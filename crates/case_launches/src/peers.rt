@@ -88,7 +88,7 @@ impl<'a> Peers<'a> {
         self.connect_to(rt, &listener, exchange)
     }
 
-    // Returns the program's stream for a connection to the listener, and stores the peer's stream.
+    // Connects to the listener, sends the peer's bytes, and returns the program's stream.
     fn connect_to<R: Net<Stream = TcpStream>>(
         &self,
         rt: &R,

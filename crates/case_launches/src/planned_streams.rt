@@ -32,7 +32,7 @@ pub(crate) struct PlannedStreams {
 }
 
 impl PlannedStreams {
-    /// Returns the streams of a program that reads and writes nothing.
+    /// Returns the streams of a program without input, expected output or known exit status.
     pub(crate) fn new(alloc: Global) -> PlannedStreams {
         PlannedStreams {
             input: Vec::new(alloc),

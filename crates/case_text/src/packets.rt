@@ -23,8 +23,8 @@ pub(crate) fn read_entry(
     Ok(TranscriptEntry { speaker, bytes })
 }
 
-// Returns the text as a packet, as bytes or as a line. The form is the character that ends the
-// keyword.
+// Returns the text as a packet, as bytes or as a line. The form is the last character of the
+// keyword, or `|` for the keywords `!` and `report`.
 fn entry_bytes(alloc: Global, form: u8, text: &[u8]) -> Result<Vec<u8>, Trouble> {
     let band: &[u8] = match form {
         b':' => return text_packet(alloc, text),

@@ -372,7 +372,7 @@ fn has_refused(
     )
 }
 
-// Returns whether the output ends with the error packet of the table line.
+// Returns whether the output is `output_before` and then the error packet of the table line.
 fn has_sent_error(
     alloc: Global,
     results: &RunResults,

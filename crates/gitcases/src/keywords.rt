@@ -3,7 +3,7 @@
 use crate::row::TestedCall;
 use gitobject::ObjectType;
 
-/// The kind of a line. FORMAT.md describes each kind.
+/// The kind of a line. FORMAT.md describes each kind except `Unknown`.
 #[derive(Clone, Copy)]
 pub(crate) enum Keyword {
     Times,

@@ -221,7 +221,7 @@ fn test_flipped_bits<R: Files + Print + AllocGlobal>(
     Ok(())
 }
 
-// Tests a changed pack, first without a correct trailer, and then with one and this variation.
+// Tests a changed pack as `BrokenPack`, and then with a correct trailer as this variation.
 fn test_both_trailers<R: Files + Print + AllocGlobal>(
     rt: &R,
     inputs: RunInputs<'_, '_>,

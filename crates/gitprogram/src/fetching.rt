@@ -140,7 +140,7 @@ where
 }
 
 // Returns the ids of the server's refs. If all refs of the fetch are already up to date, prints
-// this result for each ref, and returns `None`.
+// the report unless it is quiet, and returns `None`.
 fn tips_unless_current<R>(
     rt: &R,
     found: &Directories,
@@ -318,7 +318,7 @@ fn keep<'r, R: Files + AllocGlobal>(
     }
 }
 
-// Returns the refs that the fetch changes. Fails if a ref cannot be changed.
+// Returns the refs that the fetch changes. Fails if one is checked out, or its name is not UTF-8.
 fn checked_updates<R: Files + AllocGlobal>(
     rt: &R,
     found: &Directories,

@@ -290,7 +290,7 @@ fn open_with_leaves<'f, R: Files, F: ObjectFiles>(
     Ok((repository, reader))
 }
 
-// Returns the graph, refs and HEAD of a repository, with the refs that `open_client` adds.
+// Returns the graph, refs and HEAD of a repository, with what `open_client` adds for a fetch.
 fn read_with_leaves<R: Files, F: ObjectFiles>(
     rt: &R,
     files: &F,
