@@ -190,16 +190,23 @@ fn invented_entry<A: Allocator + Copy>(
     format: Format,
     alloc: A,
 ) -> Result<Entry<A>, IndexFault> {
-    let (digit, kind, parent_digit, parent_count) = match pack_tool {
-        PackTool::WrongParentIndexer => (b'a', Kind::Commit, b'd', 1),
-        PackTool::ManyParentsIndexer => (b'c', Kind::Commit, b'b', 65),
-        PackTool::TwoParentTagIndexer => (b'c', Kind::Tag, b'a', 2),
-        _ => return Err(IndexFault::Other),
-    };
-    let parents = [id_of_digit(format, parent_digit)?; 65];
-    match parents.get(..parent_count) {
-        Some(parents) => entry(alloc, id_of_digit(format, digit)?, kind, parents),
-        None => Err(IndexFault::Other),
+    let a = id_of_digit(format, b'a')?;
+    let c = id_of_digit(format, b'c')?;
+    match pack_tool {
+        PackTool::WrongParentIndexer => entry(
+            alloc,
+            a,
+            Kind::Commit,
+            &[id_of_digit(format, b'd')?],
+        ),
+        PackTool::ManyParentsIndexer => entry(
+            alloc,
+            c,
+            Kind::Commit,
+            &[id_of_digit(format, b'b')?; 65],
+        ),
+        PackTool::TwoParentTagIndexer => entry(alloc, c, Kind::Tag, &[a; 2]),
+        _ => Err(IndexFault::Other),
     }
 }
 

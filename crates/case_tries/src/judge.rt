@@ -363,11 +363,11 @@ fn has_refused(
     (output_before, input): (&[u8], &[u8]),
     table_line: &TableLine<'_>,
 ) -> Result<bool, Trouble> {
-    let has_sent_error = has_sent_error(alloc, results, (output_before, input), table_line)?;
+    let sent_error = has_sent_error(alloc, results, (output_before, input), table_line)?;
     let fault = table_line.fill_placeholder(alloc, table_line.expected.fault, input)?;
     Ok(
         results.status == 1
-            && has_sent_error
+            && sent_error
             && fault_text(results.errors.written_bytes()) == Some(fault.as_slice()),
     )
 }

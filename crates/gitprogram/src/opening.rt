@@ -5,7 +5,7 @@ ghost use Rattle.gitprogram.specs.Sharing.{server_in};
 
 use crate::directory::Directories;
 use crate::fault::Fault;
-use crate::sentences::{BUSY, Sentence};
+use crate::sentences::{Sentence, TOO_MANY_OPEN};
 use ganswer::Server;
 use ggraph::{Head, Refs, Repository};
 use gitobjects::{ObjectFiles, ObjectReader, StoreFault};
@@ -39,7 +39,7 @@ impl NotOpened {
     /// Returns the fault for too many open repositories.
     pub(crate) fn busy(alloc: Global) -> NotOpened {
         NotOpened {
-            fault: Fault::of(alloc, Sentence::Text(BUSY)),
+            fault: Fault::of(alloc, Sentence::Text(TOO_MANY_OPEN)),
             form: None,
             is_busy: true,
         }

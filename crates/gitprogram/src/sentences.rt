@@ -27,7 +27,7 @@ pub(crate) const NOT_SERVED: &str = "no repository is served at this path";
 pub(crate) const CLIENT_LOST: &str = "the connection to the client was lost";
 
 /// The message for too many repositories with open objects.
-pub(crate) const BUSY: &str = "the objects of too many repositories are open";
+pub(crate) const TOO_MANY_OPEN: &str = "the objects of too many repositories are open";
 
 /// The message for a client that did not send its first line or a request in time.
 pub(crate) const CLIENT_SILENT: &str = "the client sent no request in its time";
@@ -46,11 +46,12 @@ pub(crate) const NO_VERSION_2: &str =
 /// The message for a failed write to standard output without an error of the system.
 pub(crate) const NO_OUTPUT: &str = "cannot write to standard output";
 
-/// What is wrong with a path that does not lead to a Git repository.
+/// The text for a path that does not lead to a Git repository. The path precedes it.
 pub(crate) const NO_REPOSITORY: &str =
     "is not a Git repository: name a bare repository or a work tree";
 
-/// What is wrong with the destination of a clone that exists and is not an empty directory.
+/// The text for the destination of a clone that exists and is not an empty directory. Its path
+/// precedes the text.
 pub(crate) const OCCUPIED: &str = "exists and is not an empty directory: name a new one";
 
 /// Why a fetch does not update the checked-out branch.
