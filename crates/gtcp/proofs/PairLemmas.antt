@@ -25,7 +25,7 @@ module _ {A : Type 0} (old : RepoState A) (specs : List Refspec) (new : RepoStat
   fetched_so : (result : Result (Fetched A) (FetchFault A)) → IsHello pair_hello
       → FetchesSo plain_indexes (plain_index_fails A) (start_of old specs default_limit Plain) pair_hello new result
       → FetchesAsClient old specs new result
-  fetched_so result form so = inl (form, inl (record { input = so.input; output = so.output; fetches = so.fetches }))
+  fetched_so result form so = inl (form, inl so)
 
   pub fetched_between : (limit : ℕ) (options : PackOptions) (hello : Hello) (result : Result (Fetched A) (PairFault A)) → limit ≡ default_limit → options ≡ no_options
       → hello ≡ pair_hello → FetchesBetween plain_indexes (plain_index_fails A) (start_for old specs limit Plain options) hello new result → Between result

@@ -23,8 +23,8 @@ use Rattle.gfetch.specs.Starts.{Start}
 use Rattle.gfetch.specs.declared.fault.FetchFault.{FetchFault}
 use Rattle.gfetch.specs.declared.fault.FetchFault.TheVariants as fetch
 use Rattle.gfetch.specs.declared.fetched.Fetched.{Fetched}
-use Rattle.gclient.specs.GitFetches.{FetchesGit}
 use Rattle.gclient.specs.Listings.{ListsGit}
+use Rattle.gpair.specs.Pairs.{FetchesSo}
 use Rattle.gcmd.specs.Programs.{ProgramOutcome}
 use Rattle.gcmd.specs.Serving.{outcome_of_connection}
 use Rattle.gcmd.specs.declared.fault.ProgramFault.TheVariants as program
@@ -33,15 +33,10 @@ use Rattle.gtcp.specs.Telling.{PrintsFaults, faults_of}
 -- ---- fetching
 
 module _ {A : Type 0} (indexes : Indexes A) (index_fails : IndexFails) (start : Start A) (hello : Hello) where
-  -- a fetch over a socket, which begins with the first line
-  pub record HoldsFetch (new : RepoState A) (result : Result (Fetched A) (FetchFault A)) : Type 0 where
-    pub input : Input
-    pub output : Output
-    pub fetches : FetchesGit indexes index_fails start hello input output new result
-
-  -- a fetch over a socket; if memory for the buffers of the socket runs out, the repository is unchanged
+  -- a fetch over a socket, which begins with the first line; if memory for the buffers of the socket runs out, the
+  -- repository is unchanged
   abbrev pub FetchesFrom : RepoState A → Result (Fetched A) (FetchFault A) → Type 0
-  FetchesFrom new result = HoldsFetch new result ⊎ ((result ≡ Err fetch.NoBuffer) × (new ≡ start.repo))
+  FetchesFrom new result = FetchesSo indexes index_fails start hello new result ⊎ ((result ≡ Err fetch.NoBuffer) × (new ≡ start.repo))
 
   -- a fetch with this first line; if the first line is refused, the repository is unchanged
   abbrev pub FetchesOn : RepoState A → Result (Fetched A) (FetchFault A) → Type 0
