@@ -76,8 +76,8 @@ impl<C: Conversation, A: Allocator + Copy> Peer<C, A> {
     }
 
     /// Times out the peer, if it is late. First gives the peer one more turn, because its socket
-    /// may be ready but not reported yet. Gives no further turn if the whole connection lasted too
-    /// long.
+    /// may be ready but not reported yet. A peer is not late while more bytes can be moved
+    /// immediately. Gives no further turn if the whole connection lasted too long.
     pub(crate) fn time_out(&mut self, now: Instant, limits: &Limits) -> After
         ensures { EndsBy C.turn self.new.connection result }
     {
@@ -88,8 +88,7 @@ impl<C: Conversation, A: Allocator + Copy> Peer<C, A> {
             return After::Waits;
         }
         match self.advance(now, limits) {
-            After::Ends(end) => After::Ends(end),
-            _ if self.patience.is_late(now) => self.time_out_late(now, limits),
+            After::Waits if self.patience.is_late(now) => self.time_out_late(now, limits),
             after => after,
         }
     }

@@ -16,6 +16,9 @@ use std::marker::Model;
 use std::path::Path;
 use std::{fs, io};
 
+// The number of attempts to create a lockfile.
+const LOCK_ATTEMPTS: u32 = 3;
+
 /// A file of a Git directory, and its lockfile, which has the suffix `.lock`. A missing file counts
 /// as empty, and locking the file creates its parent directories. The lockfile is open only while
 /// it is written, so a thousand locks need only one file descriptor.
@@ -120,6 +123,27 @@ impl<'r, R: Files, A: Allocator + Copy> GitFile<'r, R, A> {
     }
 }
 
+// Creates the lockfile of the file at this path, and the parent directories. Another process may
+// meanwhile remove an empty parent directory (git-pack-refs(1)), so a missing one is created again.
+fn create_lock<R: Files>(files: &R, path: &str, lock_path: &str) -> Result<(), Cause> {
+    for _ in 1..LOCK_ATTEMPTS {
+        match try_lock(files, path, lock_path) {
+            Err(Cause::System(error)) if error.kind() == ErrorKind::NotFound => {}
+            result => return result,
+        }
+    }
+    try_lock(files, path, lock_path)
+}
+
+fn try_lock<R: Files>(files: &R, path: &str, lock_path: &str) -> Result<(), Cause> {
+    make_parents(files, path)?;
+    match File::create_new(files, lock_path) {
+        Ok(_closed) => Ok(()),
+        Err(error) if error.kind() == ErrorKind::AlreadyExists => Err(Cause::Locked),
+        Err(error) => Err(Cause::System(error)),
+    }
+}
+
 fn make_parents<R: Files>(files: &R, path: &str) -> Result<(), Cause> {
     let Some(parent) = Path::new(path).parent() else {
         return Ok(());
@@ -152,19 +176,14 @@ impl<R: Files, A: Allocator + Copy> Storage for GitFile<'_, R, A> {
     ghost lockfile = { λ f. f };
 
     fn lock(&mut self) -> Result<(), StorageFault> {
-        if let Err(cause) = make_parents(self.files, self.path.as_str()) {
-            return Err(self.fail(cause));
-        }
-        match File::create_new(self.files, self.lock_path.as_str()) {
-            Ok(_closed) => {
+        match create_lock(self.files, self.path.as_str(), self.lock_path.as_str()) {
+            Ok(()) => {
                 self.is_locked = true;
                 self.lockfile = Lockfile::Empty;
                 Ok(())
             }
-            Err(error) if error.kind() == ErrorKind::AlreadyExists => {
-                Err(self.fail(Cause::Locked))
-            }
-            Err(error) => Err(self.refuse(error)),
+            Err(Cause::System(error)) => Err(self.refuse(error)),
+            Err(cause) => Err(self.fail(cause)),
         }
     }
 
