@@ -40,6 +40,8 @@ AT_A_TIME = 5
 # So many refs have a longer file than the index of a small pack.
 BRANCHES = 25
 CLONES = 12
+# So many clients hold a repository at once: more than a server opens repositories.
+SHARING = 20
 # For so long a repository that changes stays as it is.
 PAUSE = 0.05
 checks = Checks()
@@ -328,6 +330,37 @@ def lists(server):
     """Whether a server lists the ref of its repository."""
     got = answer_to(server.port, hello(b"/r.git") + packet(b"command=ls-refs\n") + b"0000")
     return got.endswith(listing([(FIRST.tip, OLD.encode())]))
+
+
+def shared_objects(folder):
+    """Many clients of one repository share its open objects, also without a folder of packs and after its refs changed."""
+    base = f"{folder}/shared"
+    path = make(f"{base}/r.git")
+    for kind, body in FIRST.objects:
+        put_loose(path, kind, body)
+    put_ref(path, OLD, FIRST.tip)
+    with Gitrepo(PROGRAM, base, "--export-all") as server:
+        for what, change in (("as it is", lambda: None), ("with no folder of packs", lambda: os.rmdir(f"{path}/objects/pack")),
+                             ("after a change", lambda: put_ref(path, f"{OLD}-2", FIRST.tip))):
+            with contextlib.ExitStack() as clients:
+                streams = [clients.enter_context(socket.create_connection(("127.0.0.1", server.port), timeout=SOON)) for _ in range(SHARING)]
+                for stream in streams:
+                    heard(stream, hello(b"/r.git"))
+                    heard(stream, refs_request(b""))
+                change()
+                answer_to(server.port, hello(b"/r.git") + refs_request(b""))
+                want, have = b"want " + FIRST.tip.hex().encode(), b"have " + b"1" * 40
+                answers = [heard(stream, request(want, have)) for stream in streams]
+                check(f"{SHARING} clients of a repository {what}", all(b"NAK" in it for it in answers), answers[-1][-200:])
+
+
+def heard(stream, said):
+    """What a server answers to a client that says this, up to a flush."""
+    stream.sendall(said)
+    got = b""
+    while not got.endswith(b"0000") and (piece := stream.recv(65_536)):
+        got += piece
+    return got
 
 
 def silent_client(folder):
@@ -727,7 +760,7 @@ STEPS = {
     "silent client": silent_client, "kills": kills, "changing": changing, "lying": lying_servers, "full": full_disks,
     "closing": servers_that_close, "silent": silent_servers, "paths": paths_of_clients, "small disks": small_disks,
     "terminals": terminals, "urls": wrong_urls, "two clones": two_clones, "closed folders": closed_folders,
-    "whole lines": whole_lines,
+    "whole lines": whole_lines, "shared objects": shared_objects,
 }
 # This one takes a minute, and so it is only tried if it is named.
 SLOW = {"deadline": deadline}

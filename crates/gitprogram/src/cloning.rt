@@ -95,7 +95,9 @@ fn check_vacant<R: Files + AllocGlobal>(rt: &R, dir: &str) -> Result<(), Fault> 
         },
         Err(error) => match error.kind() {
             ErrorKind::NotFound => Ok(()),
-            ErrorKind::NotADirectory => Err(occupied_fault(alloc, dir)),
+            ErrorKind::NotADirectory if rt.symlink_metadata(dir).is_ok() => {
+                Err(occupied_fault(alloc, dir))
+            }
             _ => Err(open_fault(alloc, dir, &error)),
         },
     }

@@ -53,19 +53,31 @@ impl Directories {
         below(alloc, self.common.as_str(), "objects/pack")
     }
 
-    /// Returns whether the repository has a work tree. A repository has a work tree if a `.git`
-    /// file leads to the repository, or if `core.bare` is false (git-config(1)). If `core.bare` is
-    /// not set, a repository has a work tree if its directory is named `.git`.
+    /// Returns whether the repository has a work tree. A linked worktree is one (git-worktree(1)).
+    /// Otherwise `core.bare` decides (git-config(1)). If `core.bare` is not set, a repository has a
+    /// work tree if a `.git` file leads to it, or if its directory is named `.git`.
     pub(crate) fn has_work_tree<R>(&self, rt: &R) -> Result<bool, Fault>
     where
         R: Files + AllocGlobal,
     {
-        if self.is_linked {
+        if self.own.as_str() != self.common.as_str() {
             return Ok(true);
         }
         match is_bare(&StoredFiles::new(rt), rt.alloc(), self.common.as_str())? {
             Some(is_bare) => Ok(!is_bare),
-            None => Ok(is_named_git(self.own.as_str())),
+            None => Ok(self.is_linked || is_named_git(self.own.as_str())),
+        }
+    }
+
+    /// Returns the text of a short file in the Git directory, or `None` if there is none.
+    pub(crate) fn read_file<R>(&self, rt: &R, name: &str) -> Result<Option<Vec<u8>>, Fault>
+    where
+        R: Files + AllocGlobal,
+    {
+        let path = below(rt.alloc(), self.own.as_str(), name)?;
+        match read_pointer(rt, path.as_str())? {
+            Pointer::File(text) => Ok(Some(text)),
+            _ => Ok(None),
         }
     }
 

@@ -18,6 +18,17 @@ use std::time::SystemTime;
 /// ticket for it exists.
 pub(crate) type Ticket = Rc<u64, Global>;
 
+/// The state of the pack directory of a repository.
+#[derive(Clone, Copy, PartialEq, Eq)]
+pub(crate) enum PackDirectory {
+    /// The state is unknown.
+    Unknown,
+    /// There is no pack directory.
+    Missing,
+    /// The pack directory was modified last at this time.
+    ChangedAt(SystemTime),
+}
+
 /// Access to the repositories on a disk, and to the open object stores.
 pub(crate) trait Disk {
     /// Returns the repository that a client's path names, or `None` if no served repository has
@@ -31,8 +42,8 @@ pub(crate) trait Disk {
     /// be determined without the history, reads the whole history.
     fn open_for_ls_refs(&self, found: &Directories, listed: Listed) -> Result<Extent, NotOpened>;
 
-    /// Returns the modification time of the pack directory, or `None` if the time is unknown.
-    fn change_time(&self, found: &Directories) -> Option<SystemTime>;
+    /// Returns the state of the pack directory.
+    fn pack_directory(&self, found: &Directories) -> PackDirectory;
 
     /// Opens the objects of a repository, and returns a ticket for them.
     fn open_objects(&self, found: &Directories) -> Result<Ticket, NotOpened>;

@@ -13,7 +13,8 @@ use crate::opening::{open_client, repository_fault};
 use crate::output::Output;
 use crate::progress::{Progress, Watched};
 use crate::remote::{Remote, tips_of};
-use crate::sentences::{CHECKED_OUT, NO_COMMIT, NO_FILE_NAME, NOT_FORWARD, Sentence};
+use crate::sentences::{NO_COMMIT, NO_FILE_NAME, NOT_FORWARD, Sentence};
+use crate::used::check_unused;
 use gclient::{
     ClientFault, FetchFault, Fetched, GitFetch, MAX_SPECS, PackOptions, RefUpdate, Repo, Spec,
     fetch_git,
@@ -45,8 +46,8 @@ const BUFFER: usize = 65_536;
 // maximum leaves room for common ids.
 const MAX_BATCH: usize = 2_048;
 
-// The prefix of branch names.
-const BRANCHES: &[u8] = b"refs/heads/";
+/// The prefix of branch names.
+pub(crate) const BRANCHES: &[u8] = b"refs/heads/";
 
 /// The parameters of a fetch.
 #[derive(Clone, Copy)]
@@ -318,50 +319,20 @@ fn keep<'r, R: Files + AllocGlobal>(
     }
 }
 
-// Returns the refs that the fetch changes. Fails if one is checked out, or its name is not UTF-8.
+// Returns the refs that the fetch changes. Fails if the work tree uses one, or a name is not UTF-8.
 fn checked_updates<R: Files + AllocGlobal>(
     rt: &R,
     found: &Directories,
     client: &Client,
 ) -> Result<Vec<RefMove>, Fault> {
     let updates = updates_of(rt.alloc(), &client.before, client.repo.refs())?;
-    check_head(rt, found, updates.as_slice())?;
+    check_unused(rt, found, updates.as_slice())?;
     check_names(rt.alloc(), updates.as_slice())?;
     Ok(updates)
 }
 
-// Fails if an update would change the checked-out branch of a work tree (git-fetch(1),
-// "--update-head-ok").
-fn check_head<R>(rt: &R, found: &Directories, updates: &[RefMove]) -> Result<(), Fault>
-where
-    R: Files + AllocGlobal,
-{
-    if !found.has_work_tree(rt)? {
-        return Ok(());
-    }
-    let read = found.refs(rt.alloc(), rt).read_refs();
-    match read {
-        Ok((_refs, head)) => check_head_branch(rt.alloc(), &head, updates),
-        Err(fault) => {
-            let fault = RepositoryFault::from(fault);
-            Err(repository_fault(rt.alloc(), found.common.as_str(), &fault))
-        }
-    }
-}
-
-fn check_head_branch(alloc: Global, head: &Head<Global>, updates: &[RefMove]) -> Result<(), Fault> {
-    let Head::Symref(branch) = head else {
-        return Ok(());
-    };
-    let branch = branch.name();
-    if updates.iter().any(|update| update.name == *branch) {
-        return Err(ref_fault(alloc, branch, CHECKED_OUT));
-    }
-    Ok(())
-}
-
-// Returns the fault for a ref that is not updated for this reason.
-fn ref_fault(alloc: Global, name: &RefName<Global>, text: &'static str) -> Fault {
+/// Returns the fault for a ref that is not updated for this reason.
+pub(crate) fn ref_fault(alloc: Global, name: &RefName<Global>, text: &'static str) -> Fault {
     let name = name.as_bytes();
     Fault::of(alloc, Sentence::Ref { name, text })
 }

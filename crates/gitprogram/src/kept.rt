@@ -1,13 +1,23 @@
 //! The cache of repositories, which all connections share.
 
+use crate::disk::PackDirectory;
+use crate::opening::has_refs;
 use crate::shared::{Loaded, Shared};
-use ggraph::MAX_NODES;
+use ggraph::{Head, MAX_NODES, Refs};
 use std::alloc::{AllocError, Global};
 use std::rc::{Rc, Weak};
-use std::time::SystemTime;
 
 // The maximum number of cached repositories.
 const MAX_REPOSITORIES: usize = 64;
+
+/// The key of a cached repository.
+#[derive(Clone, Copy)]
+pub(crate) struct CacheKey<'a> {
+    /// The Git directory.
+    pub(crate) path: &'a str,
+    pub(crate) refs: &'a Refs<Global>,
+    pub(crate) head: &'a Head<Global>,
+}
 
 // A cached repository.
 #[derive(Drop)]
@@ -15,9 +25,8 @@ struct CachedRepository {
     loaded: Rc<Loaded, Global>,
     // A weak handle to the ticket for the objects, which stay open while a connection uses them.
     objects: Weak<u64, Global>,
-    // The modification time of the pack directory, read before the objects were opened, or `None`
-    // if the time is unknown.
-    changed: Option<SystemTime>,
+    // The state of the pack directory, read before the objects were opened.
+    packs: PackDirectory,
 }
 
 impl CachedRepository {
@@ -30,23 +39,33 @@ impl CachedRepository {
         Ok(CachedRepository {
             loaded: shared.loaded.clone()?,
             objects,
-            changed: shared.changed,
+            packs: shared.packs,
         })
     }
 
-    fn path(&self) -> &str {
-        self.loaded.found.own.as_str()
+    fn has_path(&self, path: &str) -> bool {
+        self.loaded.found.own.as_str() == path
+    }
+
+    fn has_key(&self, key: CacheKey<'_>) -> bool {
+        self.has_path(key.path) && has_refs(self.loaded.extent.server(), key.refs, key.head)
+    }
+
+    // Returns whether a connection uses the objects.
+    fn is_used(&self) -> bool {
+        self.objects.strong_count() > 0
     }
 
     // Returns a handle to the repository for another connection.
     fn share<'d, D>(&self, alloc: Global, disk: &'d D) -> Result<Shared<'d, D>, AllocError> {
         let loaded = self.loaded.clone()?;
-        Shared::new(alloc, disk, loaded, self.objects.upgrade(), self.changed)
+        Shared::new(alloc, disk, loaded, self.objects.upgrade(), self.packs)
     }
 }
 
-/// The most recently read repositories, oldest first, with at most 1,048,576 commits and tags in
-/// total. A connection may still use a repository that the cache has dropped.
+/// The most recently read repositories, oldest first. Those without open objects have at most
+/// 1,048,576 commits and tags in total. A connection may still use a repository that the cache has
+/// dropped.
 #[derive(Drop)]
 pub(crate) struct RepositoryCache {
     entries: Vec<CachedRepository>,
@@ -60,26 +79,26 @@ impl RepositoryCache {
         }
     }
 
-    /// Returns a handle to the cached repository with this Git directory, or `None` if the
-    /// repository is not cached. Fails only if out of memory.
+    /// Returns a handle to the cached repository with this key, or `None` if the repository is not
+    /// cached. Fails only if out of memory.
     pub(crate) fn get<'d, D>(
         &self,
         alloc: Global,
         disk: &'d D,
-        path: &str,
+        key: CacheKey<'_>,
     ) -> Result<Option<Shared<'d, D>>, AllocError> {
-        match self.entries.iter().find(|entry| entry.path() == path) {
+        match self.entries.iter().find(|entry| entry.has_key(key)) {
             Some(entry) => Ok(Some(entry.share(alloc, disk)?)),
             None => Ok(None),
         }
     }
 
-    /// Adds a repository, and removes an older entry with the same Git directory. A full cache
-    /// drops the oldest repositories. Fails only if out of memory. After a failure the cache has no
-    /// entry for this Git directory.
+    /// Adds a repository, and removes an older entry with the same key. A full cache drops the
+    /// oldest repositories without open objects. Fails only if out of memory. After a failure the
+    /// cache has no entry with this key.
     pub(crate) fn put<D>(&mut self, shared: &Shared<'_, D>) -> Result<(), AllocError> {
-        let path = shared.loaded.found.own.as_str();
-        if let Some(index) = self.entries.iter().position(|entry| entry.path() == path) {
+        let key = shared.loaded.key();
+        if let Some(index) = self.entries.iter().position(|entry| entry.has_key(key)) {
             let _old = self.entries.remove(index);
         }
         self.make_room(nodes_of(&shared.loaded));
@@ -89,33 +108,49 @@ impl RepositoryCache {
         }
     }
 
-    // Drops the oldest repositories until there is room for a repository with `nodes` commits and
-    // tags.
+    /// Drops the repositories with this Git directory that have no open objects.
+    pub(crate) fn drop_unused(&mut self, path: &str) {
+        for _ in 0..MAX_REPOSITORIES {
+            let mut entries = self.entries.iter();
+            match entries.position(|entry| entry.has_path(path) && !entry.is_used()) {
+                Some(index) => self.drop_at(index),
+                None => break,
+            }
+        }
+    }
+
+    // Drops the oldest repositories without open objects until there is room for a repository with
+    // `nodes` commits and tags.
     fn make_room(&mut self, nodes: usize) {
         for _ in 0..MAX_REPOSITORIES {
             if self.has_room(nodes) {
                 break;
             }
-            self.drop_oldest();
+            match self.entries.iter().position(|entry| !entry.is_used()) {
+                Some(index) => self.drop_at(index),
+                None => break,
+            }
         }
     }
 
     fn has_room(&self, nodes: usize) -> bool {
-        let total = self.nodes().saturating_add(nodes);
-        self.entries.is_empty() || (self.entries.len() < MAX_REPOSITORIES && total <= MAX_NODES)
+        let total = self.unused_nodes().saturating_add(nodes);
+        self.entries.len() < MAX_REPOSITORIES && total <= MAX_NODES
     }
 
-    fn drop_oldest(&mut self) {
-        if !self.entries.is_empty() {
-            let _oldest = self.entries.remove(0);
+    fn drop_at(&mut self, index: usize) {
+        if index < self.entries.len() {
+            let _dropped = self.entries.remove(index);
         }
     }
 
-    // Returns the total number of commits and tags in the cache.
-    fn nodes(&self) -> usize {
+    // Returns the total number of commits and tags in the repositories without open objects.
+    fn unused_nodes(&self) -> usize {
         let mut nodes: usize = 0;
         for entry in &self.entries {
-            nodes = nodes.saturating_add(nodes_of(&entry.loaded));
+            if !entry.is_used() {
+                nodes = nodes.saturating_add(nodes_of(&entry.loaded));
+            }
         }
         nodes
     }

@@ -3,11 +3,11 @@
 //!
 //! - `serve` serves the exported repositories below a directory, with many connections at once on
 //!   one thread (git-daemon(1)). `serve` reads the refs again for each connection, so clients see
-//!   the changes that Git makes. The server caches the graphs of at most 64 repositories, with at
-//!   most 1,048,576 commits and tags in total. A cached graph is used while the refs and HEAD are
-//!   unchanged. Connections also share open packs while the pack directory is unchanged. `serve`
-//!   sends a pack entry by entry, and holds one entry and at most 10 possible delta bases in
-//!   memory. `serve` logs one line per connection.
+//!   the changes that Git makes. The server caches the graphs of at most 64 repositories. Those
+//!   without open objects have at most 1,048,576 commits and tags in total. A cached graph is used
+//!   for equal refs and an equal HEAD. Connections also share open packs while the pack directory
+//!   is unchanged. `serve` sends a pack entry by entry, and holds one entry and at most 10 possible
+//!   delta bases in memory. `serve` logs one line per connection.
 //! - `upload-pack` serves one connection on standard input and output (git-upload-pack(1)).
 //! - `serve` and `upload-pack` answer ls-refs from the refs, the peeled ids in `packed-refs`, and
 //!   the objects of all other refs. They read the history at the first fetch request. If the
@@ -46,9 +46,10 @@
 //!   server.
 //! - A refspec without `+` allows `fetch` to fast-forward a tag. In Git, only a refspec with `+`
 //!   allows a tag to move. `fetch` fails if a destination is a symbolic ref. `fetch` refuses to
-//!   update the branch that is checked out in the work tree of its argument DIR. A branch that is
-//!   checked out only in another worktree can be updated. If `core.bare` is not set in the file
-//!   `config`, a repository has a work tree if its directory is named `.git`.
+//!   update a branch that the work tree of its argument DIR uses: the checked-out branch, or one
+//!   that is being rebased or bisected. A branch that only another worktree uses can be updated. If
+//!   `core.bare` is not set in the file `config`, a repository has a work tree if its directory is
+//!   named `.git`, or if a `.git` file leads to it.
 //! - By default, `serve` accepts at most 1,024 connections at once, and at most 64 from one
 //!   address. A client must send its first line within 10 seconds, the first byte of a request
 //!   within 60 seconds, and the rest of the request within another 60 seconds. A client that
@@ -135,6 +136,7 @@ mod shared;
 mod slots;
 mod stored;
 mod uploading;
+mod used;
 mod visitor;
 mod visits;
 

@@ -5,6 +5,7 @@ ghost use Rattle.gitprogram.specs.Sharing.{server_in};
 
 use crate::directory::Directories;
 use crate::fault::Fault;
+use crate::kept::CacheKey;
 use crate::sentences::{Sentence, TOO_MANY_OPEN};
 use ganswer::Server;
 use ggraph::{Head, Refs, Repository};
@@ -84,9 +85,13 @@ pub(crate) struct Listed {
 }
 
 impl Listed {
-    /// Returns whether the refs and HEAD of a server equal these refs and this HEAD.
-    pub(crate) fn matches(&self, server: &Server<Global>) -> bool {
-        has_refs(server, &self.found.refs, &self.found.head)
+    /// Returns the key in the cache of the repository in these directories.
+    pub(crate) fn key<'a>(&'a self, found: &'a Directories) -> CacheKey<'a> {
+        CacheKey {
+            path: found.own.as_str(),
+            refs: &self.found.refs,
+            head: &self.found.head,
+        }
     }
 }
 

@@ -1,11 +1,11 @@
 //! The repositories of a server, shared by all connections.
 
 use crate::directory::Directories;
-use crate::disk::{Disk, Ticket};
+use crate::disk::{Disk, PackDirectory, Ticket};
 use crate::fault::Fault;
-use crate::kept::RepositoryCache;
+use crate::kept::{CacheKey, RepositoryCache};
 use crate::notes::Notes;
-use crate::opening::{Extent, Listed, NotOpened, has_refs};
+use crate::opening::{Extent, Listed, NotOpened};
 use crate::refusals::{
     ACCESS_DENIED, BAD_FIRST_LINE, BUSY, NOT_OPENED, PACK_FAILED, TOO_LARGE_REQUEST,
 };
@@ -19,7 +19,6 @@ use gserver::{ErrText, Host, ServedRepository};
 use std::alloc::{AllocError, Global};
 use std::cell::RefCell;
 use std::rc::Rc;
-use std::time::SystemTime;
 
 /// A value that can close unused object stores.
 pub(crate) trait ClosesStores {
@@ -47,40 +46,29 @@ impl<'d, D> Repositories<'d, D> {
         }
     }
 
-    // Returns a handle to the cached repository in these directories, or `None` if there is none.
-    fn find_cached(&self, found: &Directories) -> Result<Option<Shared<'d, D>>, AllocError> {
+    // Returns a handle to the cached repository with this key, or `None` if there is none.
+    fn find_cached(&self, key: CacheKey<'_>) -> Result<Option<Shared<'d, D>>, AllocError> {
         match self.cache.try_borrow() {
-            Ok(cache) => cache.get(self.alloc, self.disk, found.own.as_str()),
+            Ok(cache) => cache.get(self.alloc, self.disk, key),
             Err(_) => Ok(None),
         }
     }
 
-    // Returns the cached repository if it has the refs and HEAD of `repo`, and `repo` otherwise.
+    // Returns the cached repository with the refs and HEAD of `repo`, or `repo` if there is none.
     fn find_same(&self, repo: &Shared<'d, D>) -> Result<Shared<'d, D>, AllocError> {
-        let server = repo.server();
-        if let Some(cached) = self.find_cached(&repo.loaded.found)? {
-            if has_refs(cached.server(), server.refs(), server.head()) {
-                return Ok(cached);
-            }
-        }
-        repo.handle()
-    }
-
-    // Returns whether the cache has the repository of `opened` with other refs or another HEAD.
-    fn differs_from_cache(&self, opened: &Shared<'d, D>) -> Result<bool, AllocError> {
-        let server = opened.server();
-        match self.find_cached(&opened.loaded.found)? {
-            Some(cached) => Ok(!has_refs(cached.server(), server.refs(), server.head())),
-            None => Ok(false),
+        match self.find_cached(repo.loaded.key())? {
+            Some(cached) => Ok(cached),
+            None => repo.handle(),
         }
     }
 
-    // Adds a repository to the cache, unless the cache has it with other refs or another HEAD.
-    fn add_unless_changed(&self, opened: &Shared<'d, D>) -> Result<(), AllocError> {
-        if self.differs_from_cache(opened)? {
-            return Ok(());
+    // Adds a repository with its present refs and HEAD to the cache, and drops its old entries. An
+    // entry stays while a connection uses its objects.
+    fn add_present(&self, shared: &Shared<'d, D>) -> Result<(), AllocError> {
+        if let Ok(mut cache) = self.cache.try_borrow_mut() {
+            cache.drop_unused(shared.loaded.found.own.as_str());
         }
-        self.add_to_cache(opened)
+        self.add_to_cache(shared)
     }
 
     fn add_to_cache(&self, shared: &Shared<'d, D>) -> Result<(), AllocError> {
@@ -127,36 +115,34 @@ impl<'d, D: Disk> Repositories<'d, D> {
     // refs and this HEAD. Otherwise opens the repository for ls-refs, and adds it to the cache.
     fn find_and_list(&self, found: Directories) -> Result<Shared<'d, D>, NotOpened> {
         let listed = self.disk.list(&found)?;
-        if let Some(shared) = self.find_cached(&found)? {
-            if listed.matches(shared.server()) {
-                return Ok(shared.without_objects());
-            }
+        match self.find_cached(listed.key(&found))? {
+            Some(shared) => Ok(shared.without_objects()),
+            None => self.list_now(found, listed),
         }
-        self.list_now(found, listed)
     }
 
     // Opens the repository with these refs and HEAD for ls-refs, and adds it to the cache.
     fn list_now(&self, found: Directories, listed: Listed) -> Result<Shared<'d, D>, NotOpened> {
         let extent = self.disk.open_for_ls_refs(&found, listed)?;
         let loaded = share(self.alloc, Loaded { found, extent })?;
-        let shared = Shared::new(self.alloc, self.disk, loaded, None, None)?;
-        self.add_to_cache(&shared)?;
+        let shared = Shared::new(self.alloc, self.disk, loaded, None, PackDirectory::Unknown)?;
+        self.add_present(&shared)?;
         Ok(shared)
     }
 
     // Returns a repository with its history and open objects. Connections with equal refs share the
     // history and the open objects while the pack directory is unchanged.
     fn open_shared(&self, repo: &Shared<'d, D>) -> Result<Shared<'d, D>, NotOpened> {
-        let changed = self.disk.change_time(&repo.loaded.found);
-        if repo.is_open_since(changed) {
+        let packs = self.disk.pack_directory(&repo.loaded.found);
+        if repo.is_open_since(packs) {
             return Ok(repo.handle()?);
         }
         let known = self.find_same(repo)?;
-        if known.is_open_since(changed) {
+        if known.is_open_since(packs) {
             return Ok(known);
         }
-        let opened = self.open_now(&known, changed)?;
-        self.add_unless_changed(&opened)?;
+        let opened = self.open_now(&known, packs)?;
+        self.add_to_cache(&opened)?;
         Ok(opened)
     }
 
@@ -164,14 +150,14 @@ impl<'d, D: Disk> Repositories<'d, D> {
     fn open_now(
         &self,
         repo: &Shared<'d, D>,
-        changed: Option<SystemTime>,
+        packs: PackDirectory,
     ) -> Result<Shared<'d, D>, NotOpened> {
         let found = &repo.loaded.found;
         let (loaded, ticket) = match &repo.loaded.extent {
             Extent::Whole(_) => (repo.loaded.clone()?, self.disk.open_objects(found)?),
             Extent::Tips(tips) => self.load_history(found, tips)?,
         };
-        Ok(Shared::new(self.alloc, self.disk, loaded, Some(ticket), changed)?)
+        Ok(Shared::new(self.alloc, self.disk, loaded, Some(ticket), packs)?)
     }
 
     // Opens the objects of a repository, and reads the history of the refs and HEAD in `tips`.

@@ -57,6 +57,9 @@ pub(crate) const OCCUPIED: &str = "exists and is not an empty directory: name a 
 /// Why a fetch does not update the checked-out branch.
 pub(crate) const CHECKED_OUT: &str = "is checked out: fetch into another ref";
 
+/// Why a fetch does not update a branch of an unfinished rebase or bisection.
+pub(crate) const UNFINISHED: &str = "is being rebased or bisected: fetch into another ref";
+
 /// Why a fetch does not move a ref if the update is not a fast-forward.
 pub(crate) const NOT_FORWARD: &str =
     "is not moved, as this is no fast-forward: put + before its refspec";
@@ -232,7 +235,7 @@ fn write_store_file<W: fmt::Write>(
     let reason = match fault.cause {
         Cause::Open(ErrorKind::NotFound) | Cause::List(ErrorKind::NotFound) => "there is none",
         Cause::Open(ErrorKind::Other | ErrorKind::Uncategorized) => {
-            "if too many files are open, 'git gc' makes one pack of all"
+            "the cause is unknown. If too many files are open, 'git gc' makes one pack of all"
         }
         _ => return fmt::Display::fmt(fault, f),
     };

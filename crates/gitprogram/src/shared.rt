@@ -3,8 +3,9 @@
 ghost use Rattle.std.specs.Prelude.{◌≡◌};
 
 use crate::directory::Directories;
-use crate::disk::{Disk, Ticket};
+use crate::disk::{Disk, PackDirectory, Ticket};
 use crate::fault::Fault;
+use crate::kept::CacheKey;
 use crate::opening::Extent;
 use crate::sentences::Sentence;
 use ganswer::{ServeFault, Server};
@@ -15,7 +16,6 @@ use gserver::ServedRepository;
 use std::alloc::{AllocError, Global};
 use std::cell::RefCell;
 use std::rc::Rc;
-use std::time::SystemTime;
 
 /// A repository with the refs, HEAD and history read so far.
 #[derive(Drop)]
@@ -24,6 +24,18 @@ pub(crate) struct Loaded {
     pub(crate) found: Directories,
     /// The server for the repository, with the history read so far.
     pub(crate) extent: Extent,
+}
+
+impl Loaded {
+    /// Returns the key of the repository in the cache.
+    pub(crate) fn key(&self) -> CacheKey<'_> {
+        let server = self.extent.server();
+        CacheKey {
+            path: self.found.own.as_str(),
+            refs: server.refs(),
+            head: server.head(),
+        }
+    }
 }
 
 /// A handle that records the fault of its last failed call.
@@ -40,9 +52,8 @@ pub(crate) struct Shared<'d, D> {
     pub(crate) loaded: Rc<Loaded, Global>,
     /// The ticket for the open objects, or `None` until a connection needs objects.
     pub(crate) objects: Option<Ticket>,
-    /// The modification time of the pack directory, read before the objects were opened, or `None`
-    /// if the time is unknown.
-    pub(crate) changed: Option<SystemTime>,
+    /// The state of the pack directory, read before the objects were opened.
+    pub(crate) packs: PackDirectory,
     // The fault that `take_fault` returns. All handles of one connection share this field.
     fault: Rc<RefCell<Option<Fault>>, Global>,
 }
@@ -54,14 +65,14 @@ impl<'d, D> Shared<'d, D> {
         disk: &'d D,
         loaded: Rc<Loaded, Global>,
         objects: Option<Ticket>,
-        changed: Option<SystemTime>,
+        packs: PackDirectory,
     ) -> Result<Shared<'d, D>, AllocError> {
         Ok(Shared {
             alloc,
             disk,
             loaded,
             objects,
-            changed,
+            packs,
             fault: share(alloc, RefCell::new(None))?,
         })
     }
@@ -74,9 +85,9 @@ impl<'d, D> Shared<'d, D> {
     }
 
     /// Returns whether the objects are open, and the pack directory has not changed since they were
-    /// opened. Returns `false` if the modification time `changed` is unknown.
-    pub(crate) fn is_open_since(&self, changed: Option<SystemTime>) -> bool {
-        self.objects.is_some() && changed.is_some() && self.changed == changed
+    /// opened. Returns `false` if the present state `packs` of the pack directory is unknown.
+    pub(crate) fn is_open_since(&self, packs: PackDirectory) -> bool {
+        self.objects.is_some() && packs != PackDirectory::Unknown && self.packs == packs
     }
 }
 

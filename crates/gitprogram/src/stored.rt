@@ -1,7 +1,7 @@
 //! The served repositories on disk, and the open object stores.
 
 use crate::directory::{Directories, Exports, find_served};
-use crate::disk::{Disk, Ticket};
+use crate::disk::{Disk, PackDirectory, Ticket};
 use crate::fault::Fault;
 use crate::opening::{
     Extent, Listed, NotOpened, ObjectPacker, open_for_ls_refs, open_history, open_objects,
@@ -13,9 +13,9 @@ use ggraph::{Entry, PackFault};
 use gitobjects::ObjectFiles;
 use gitrepository::StoreParts;
 use std::alloc::{AllocError, Global};
+use std::io::ErrorKind;
 use std::rc::Rc;
 use std::rt::Files;
-use std::time::SystemTime;
 
 /// The repositories that a server serves.
 #[derive(Clone, Copy)]
@@ -87,10 +87,18 @@ impl<R: Files + AllocGlobal, F: ObjectFiles> Disk for Stored<'_, '_, R, F> {
         open_for_ls_refs(self.rt.alloc(), self.files, found, listed)
     }
 
-    fn change_time(&self, found: &Directories) -> Option<SystemTime> {
-        let path = found.packs(self.rt.alloc()).ok()?;
-        let metadata = self.rt.metadata(path.as_str()).ok()?;
-        metadata.modified().ok()
+    fn pack_directory(&self, found: &Directories) -> PackDirectory {
+        let Ok(path) = found.packs(self.rt.alloc()) else {
+            return PackDirectory::Unknown;
+        };
+        match self.rt.metadata(path.as_str()) {
+            Ok(metadata) => match metadata.modified() {
+                Ok(time) => PackDirectory::ChangedAt(time),
+                Err(_) => PackDirectory::Unknown,
+            },
+            Err(error) if error.kind() == ErrorKind::NotFound => PackDirectory::Missing,
+            Err(_) => PackDirectory::Unknown,
+        }
     }
 
     fn open_objects(&self, found: &Directories) -> Result<Ticket, NotOpened> {
