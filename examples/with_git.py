@@ -285,13 +285,6 @@ def into_work_trees(folder, layouts, theirs):
             check(f"gitrepo check of {layout.name}", gitrepo("check", layout.path), gitrepo("check", layout.path))
 
 
-def put(path, text):
-    """Writes a file, and makes the folder for it."""
-    os.makedirs(os.path.dirname(path), exist_ok=True)
-    with open(path, "w") as file:
-        file.write(text)
-
-
 def protected(folder, theirs):
     """What a fetch must not move: a branch that is checked out, and a branch to what is no commit."""
     path, url = f"{folder}/served/updated.git", theirs.url("updated.git")
@@ -309,13 +302,13 @@ def protected(folder, theirs):
     done = gitrepo("fetch", f"{folder}/bare", url, f"+{BRANCH}:{head}")
     check("a bare repository has no branch that is checked out", done and tip(bare, head) == tip(path), done)
     git(None, "clone", "--quiet", "--bare", work, f"{folder}/hidden/.bare")
-    put(f"{folder}/hidden/.git", "gitdir: ./.bare\n")
+    write(f"{folder}/hidden/.git", b"gitdir: ./.bare\n")
     done = gitrepo("fetch", f"{folder}/hidden", url, f"+{BRANCH}:{head}")
     check("nor has one that a file leads to", done and tip(f"{folder}/hidden/.bare", head) == tip(path), done)
     git(work, "checkout", "--quiet", "--detach")
     for name, text in (("rebase-merge/head-name", head), ("rebase-merge/update-refs", f"{head}\n{'0' * 40}"),
                        ("rebase-apply/head-name", head), ("BISECT_START", head.removeprefix("refs/heads/"))):
-        put(f"{work}/.git/{name}", f"{text}\n")
+        write(f"{work}/.git/{name}", f"{text}\n".encode())
         refuses(f"a branch that {name} names", gitrepo("fetch", work, url, f"+{BRANCH}:{head}"), head)
         os.remove(f"{work}/.git/{name}")
     done = gitrepo("fetch", work, url, f"+{BRANCH}:{head}")

@@ -13,6 +13,9 @@ use std::alloc::{AllocError, Allocator};
 // The length of the trailer of a pack.
 const TRAILER: usize = 20;
 
+// The maximum capacity that is kept for the next entry.
+const MAX_KEPT: usize = 1 << 20;
+
 /// A pack that is returned in parts while it is built. Only the most recently built bytes are in
 /// memory.
 #[derive(Drop)]
@@ -103,7 +106,7 @@ impl<A: Allocator + Copy> Outgoing<A> {
         }
         self.is_between_entries = false;
         let max_length = MAX_PARTS.saturating_sub(TRAILER).saturating_sub(self.made);
-        self.bytes.clear();
+        empty(&mut self.bytes);
         self.given = 0;
         put_entry(&mut self.bytes, form, size, stream, max_length)?;
         self.sum.update(self.bytes.as_slice());
@@ -165,5 +168,16 @@ impl<A: Allocator + Copy> Outgoing<A> {
         self.given += count;
         self.left -= count;
         Ok(count)
+    }
+}
+
+// Removes all bytes, and frees the memory of a long entry.
+fn empty<A: Allocator + Copy>(bytes: &mut Vec<u8, A>)
+    ensures items { bytes.new.items ≡ [] }
+{
+    if bytes.capacity() > MAX_KEPT {
+        *bytes = Vec::new(*bytes.allocator());
+    } else {
+        bytes.clear();
     }
 }
