@@ -56,6 +56,10 @@ impl CachedRepository {
         self.objects.strong_count() > 0
     }
 
+    fn is_unused_at(&self, path: &str) -> bool {
+        self.has_path(path) && !self.is_used()
+    }
+
     // Returns a handle to the repository for another connection.
     fn share<'d, D>(&self, alloc: Global, disk: &'d D) -> Result<Shared<'d, D>, AllocError> {
         let loaded = self.loaded.clone()?;
@@ -111,8 +115,11 @@ impl RepositoryCache {
     /// Drops the repositories with this Git directory that have no open objects.
     pub(crate) fn drop_unused(&mut self, path: &str) {
         for _ in 0..MAX_REPOSITORIES {
-            let mut entries = self.entries.iter();
-            match entries.position(|entry| entry.has_path(path) && !entry.is_used()) {
+            match self
+                .entries
+                .iter()
+                .position(|entry| entry.is_unused_at(path))
+            {
                 Some(index) => self.drop_at(index),
                 None => break,
             }
