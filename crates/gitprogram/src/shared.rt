@@ -181,7 +181,7 @@ impl<D> ServedRepository<Global> for Shared<'_, D> {
             disk: self.disk,
             loaded: self.loaded.clone()?,
             objects,
-            changed: self.changed,
+            packs: self.packs,
             fault: self.fault.clone()?,
         })
     }
