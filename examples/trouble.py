@@ -348,7 +348,8 @@ def shared_objects(folder):
                     heard(stream, hello(b"/r.git"))
                     heard(stream, refs_request(b""))
                 change()
-                answer_to(server.port, hello(b"/r.git") + refs_request(b""))
+                got = answer_to(server.port, hello(b"/r.git") + refs_request(b""))
+                check(f"{SHARING} clients, and one that lists a repository {what}", got.count(OLD.encode()) == len(refs_of(path)), got)
                 want, have = b"want " + FIRST.tip.hex().encode(), b"have " + b"1" * 40
                 answers = [heard(stream, request(want, have)) for stream in streams]
                 check(f"{SHARING} clients of a repository {what}", all(b"NAK" in it for it in answers), answers[-1][-200:])

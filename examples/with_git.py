@@ -309,7 +309,7 @@ def protected(folder, theirs):
     for name, text in (("rebase-merge/head-name", head), ("rebase-merge/update-refs", f"{head}\n{'0' * 40}"),
                        ("rebase-apply/head-name", head), ("BISECT_START", head.removeprefix("refs/heads/"))):
         write(f"{work}/.git/{name}", f"{text}\n".encode())
-        refuses(f"a branch that {name} names", gitrepo("fetch", work, url, f"+{BRANCH}:{head}"), head)
+        refuses(f"a branch that {name} names", gitrepo("fetch", work, url, f"+{BRANCH}:{head}"), "rebased or bisected")
         os.remove(f"{work}/.git/{name}")
     done = gitrepo("fetch", work, url, f"+{BRANCH}:{head}")
     check("a branch that nothing names", done and tip(work, head) == tip(path), done)

@@ -14,7 +14,8 @@
 //!   the whole connection. If a peer sends too late, the loop notifies the conversation that the
 //!   source failed, and the conversation may send its last packets. Any other late peer is
 //!   disconnected. A late peer first has one more turn, because its socket may be ready but not
-//!   reported yet. Only a peer whose whole connection lasted too long has no further turn.
+//!   reported yet. It is not timed out if more bytes can then be moved immediately. Only a peer
+//!   whose whole connection lasted too long has no further turn.
 //! - A connection allocates memory for received bytes only when the first byte arrives. Before the
 //!   first byte, a connection needs a few hundred bytes and the memory of its conversation. The
 //!   send queue of a connection has room for two packets of the maximum size. The loop frees the

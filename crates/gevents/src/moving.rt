@@ -76,8 +76,8 @@ impl<C: Conversation, A: Allocator + Copy> Peer<C, A> {
     }
 
     /// Times out the peer, if it is late. First gives the peer one more turn, because its socket
-    /// may be ready but not reported yet. A peer is not late while more bytes can be moved
-    /// immediately. Gives no further turn if the whole connection lasted too long.
+    /// may be ready but not reported yet. Does not time out the peer if more bytes can then be
+    /// moved immediately. Gives no turn if the whole connection lasted too long.
     pub(crate) fn time_out(&mut self, now: Instant, limits: &Limits) -> After
         ensures { EndsBy C.turn self.new.connection result }
     {

@@ -53,7 +53,7 @@ impl Directories {
         below(alloc, self.common.as_str(), "objects/pack")
     }
 
-    /// Returns whether the repository has a work tree. A linked worktree is one (git-worktree(1)).
+    /// Returns whether the repository has a work tree. A linked worktree has one (git-worktree(1)).
     /// Otherwise `core.bare` decides (git-config(1)). If `core.bare` is not set, a repository has a
     /// work tree if a `.git` file leads to it, or if its directory is named `.git`.
     pub(crate) fn has_work_tree<R>(&self, rt: &R) -> Result<bool, Fault>
@@ -69,15 +69,16 @@ impl Directories {
         }
     }
 
-    /// Returns the text of a short file in the Git directory, or `None` if there is none.
+    /// Returns the text of a file in the Git directory, or `None` if there is no such file.
     pub(crate) fn read_file<R>(&self, rt: &R, name: &str) -> Result<Option<Vec<u8>>, Fault>
     where
         R: Files + AllocGlobal,
     {
         let path = below(rt.alloc(), self.own.as_str(), name)?;
-        match read_pointer(rt, path.as_str())? {
-            Pointer::File(text) => Ok(Some(text)),
-            _ => Ok(None),
+        match fs::read(rt, path.as_str()) {
+            Ok(text) => Ok(Some(text)),
+            Err(error) if is_absent(error.kind()) => Ok(None),
+            Err(error) => Err(open_fault(rt.alloc(), path.as_str(), &error)),
         }
     }
 

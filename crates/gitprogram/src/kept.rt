@@ -56,8 +56,10 @@ impl CachedRepository {
         self.objects.strong_count() > 0
     }
 
-    fn is_unused_at(&self, path: &str) -> bool {
-        self.has_path(path) && !self.is_used()
+    // Returns whether this is the repository with the Git directory of a key, but with other refs or
+    // another HEAD, and without open objects.
+    fn is_unused_beside(&self, key: CacheKey<'_>) -> bool {
+        self.has_path(key.path) && !self.is_used() && !self.has_key(key)
     }
 
     // Returns a handle to the repository for another connection.
@@ -67,9 +69,9 @@ impl CachedRepository {
     }
 }
 
-/// The most recently read repositories, oldest first. Those without open objects have at most
-/// 1,048,576 commits and tags in total. A connection may still use a repository that the cache has
-/// dropped.
+/// The most recently read repositories, oldest first. After `put` and `trim`, those without open
+/// objects have at most 1,048,576 commits and tags in total. A connection may still use a repository
+/// that the cache has dropped.
 #[derive(Drop)]
 pub(crate) struct RepositoryCache {
     entries: Vec<CachedRepository>,
@@ -105,20 +107,24 @@ impl RepositoryCache {
         if let Some(index) = self.entries.iter().position(|entry| entry.has_key(key)) {
             let _old = self.entries.remove(index);
         }
-        self.make_room(nodes_of(&shared.loaded));
+        self.make_room(match &shared.objects {
+            Some(_) => 0,
+            None => nodes_of(&shared.loaded),
+        });
         match self.entries.push(CachedRepository::new(shared)?) {
             Ok(()) => Ok(()),
             Err(_) => Err(AllocError),
         }
     }
 
-    /// Drops the repositories with this Git directory that have no open objects.
-    pub(crate) fn drop_unused(&mut self, path: &str) {
+    /// Drops the repositories with the Git directory of this key, but with other refs or another
+    /// HEAD, that have no open objects.
+    pub(crate) fn drop_others(&mut self, key: CacheKey<'_>) {
         for _ in 0..MAX_REPOSITORIES {
             match self
                 .entries
                 .iter()
-                .position(|entry| entry.is_unused_at(path))
+                .position(|entry| entry.is_unused_beside(key))
             {
                 Some(index) => self.drop_at(index),
                 None => break,
@@ -126,23 +132,37 @@ impl RepositoryCache {
         }
     }
 
+    /// Drops the oldest repositories without open objects, until the others without open objects
+    /// have at most 1,048,576 commits and tags in total.
+    pub(crate) fn trim(&mut self) {
+        for _ in 0..MAX_REPOSITORIES {
+            if self.has_room_for_nodes(0) {
+                break;
+            }
+            self.drop_oldest();
+        }
+    }
+
     // Drops the oldest repositories without open objects until there is room for a repository with
     // `nodes` commits and tags.
     fn make_room(&mut self, nodes: usize) {
         for _ in 0..MAX_REPOSITORIES {
-            if self.has_room(nodes) {
+            if self.entries.len() < MAX_REPOSITORIES && self.has_room_for_nodes(nodes) {
                 break;
             }
-            match self.entries.iter().position(|entry| !entry.is_used()) {
-                Some(index) => self.drop_at(index),
-                None => break,
-            }
+            self.drop_oldest();
         }
     }
 
-    fn has_room(&self, nodes: usize) -> bool {
-        let total = self.unused_nodes().saturating_add(nodes);
-        self.entries.len() < MAX_REPOSITORIES && total <= MAX_NODES
+    fn has_room_for_nodes(&self, nodes: usize) -> bool {
+        self.unused_nodes().saturating_add(nodes) <= MAX_NODES
+    }
+
+    // Drops the oldest repository without open objects, if there is one.
+    fn drop_oldest(&mut self) {
+        if let Some(index) = self.entries.iter().position(|entry| !entry.is_used()) {
+            self.drop_at(index);
+        }
     }
 
     fn drop_at(&mut self, index: usize) {

@@ -46,8 +46,8 @@
 //!   server.
 //! - A refspec without `+` allows `fetch` to fast-forward a tag. In Git, only a refspec with `+`
 //!   allows a tag to move. `fetch` fails if a destination is a symbolic ref. `fetch` refuses to
-//!   update a branch that the work tree of its argument DIR uses: the checked-out branch, or one
-//!   that is being rebased or bisected. A branch that only another worktree uses can be updated. If
+//!   update a branch that the work tree of its argument DIR uses. These are the checked-out branch
+//!   and those being rebased or bisected. A branch that only another worktree uses can move. If
 //!   `core.bare` is not set in the file `config`, a repository has a work tree if its directory is
 //!   named `.git`, or if a `.git` file leads to it.
 //! - By default, `serve` accepts at most 1,024 connections at once, and at most 64 from one

@@ -54,21 +54,21 @@ impl<'d, D> Repositories<'d, D> {
         }
     }
 
+    // Does the same for a key with the present refs and HEAD of a repository. Drops the entries with
+    // older refs or HEAD that no connection uses.
+    fn find_present(&self, key: CacheKey<'_>) -> Result<Option<Shared<'d, D>>, AllocError> {
+        if let Ok(mut cache) = self.cache.try_borrow_mut() {
+            cache.drop_others(key);
+        }
+        self.find_cached(key)
+    }
+
     // Returns the cached repository with the refs and HEAD of `repo`, or `repo` if there is none.
     fn find_same(&self, repo: &Shared<'d, D>) -> Result<Shared<'d, D>, AllocError> {
         match self.find_cached(repo.loaded.key())? {
             Some(cached) => Ok(cached),
             None => repo.handle(),
         }
-    }
-
-    // Adds a repository with its present refs and HEAD to the cache, and drops its old entries. An
-    // entry stays while a connection uses its objects.
-    fn add_present(&self, shared: &Shared<'d, D>) -> Result<(), AllocError> {
-        if let Ok(mut cache) = self.cache.try_borrow_mut() {
-            cache.drop_unused(shared.loaded.found.own.as_str());
-        }
-        self.add_to_cache(shared)
     }
 
     fn add_to_cache(&self, shared: &Shared<'d, D>) -> Result<(), AllocError> {
@@ -115,7 +115,7 @@ impl<'d, D: Disk> Repositories<'d, D> {
     // refs and this HEAD. Otherwise opens the repository for ls-refs, and adds it to the cache.
     fn find_and_list(&self, found: Directories) -> Result<Shared<'d, D>, NotOpened> {
         let listed = self.disk.list(&found)?;
-        match self.find_cached(listed.key(&found))? {
+        match self.find_present(listed.key(&found))? {
             Some(shared) => Ok(shared.without_objects()),
             None => self.list_now(found, listed),
         }
@@ -126,7 +126,7 @@ impl<'d, D: Disk> Repositories<'d, D> {
         let extent = self.disk.open_for_ls_refs(&found, listed)?;
         let loaded = share(self.alloc, Loaded { found, extent })?;
         let shared = Shared::new(self.alloc, self.disk, loaded, None, PackDirectory::Unknown)?;
-        self.add_present(&shared)?;
+        self.add_to_cache(&shared)?;
         Ok(shared)
     }
 
@@ -176,6 +176,9 @@ impl<'d, D: Disk> Repositories<'d, D> {
 impl<D: Disk> ClosesStores for Repositories<'_, D> {
     fn close_unused(&self) {
         self.disk.close_unused();
+        if let Ok(mut cache) = self.cache.try_borrow_mut() {
+            cache.trim();
+        }
     }
 }
 
