@@ -20,7 +20,7 @@
 //! - The private type `Window` caches at most 64 blocks of the open packs. Each block has at most
 //!   1 MiB. The window returns the correct bytes of a pack, no matter which blocks are in memory.
 //! - A private function returns whether to list a pack folder again. The result is `false` exactly
-//!   if at least two listings count since the names in the folder last changed.
+//!   if the folder was listed at least twice since the names in it last changed.
 //! - The path of a loose object is the object folder, the first two digits of the id and the other
 //!   digits, separated by slashes. The paths in `info/alternates` are read in the order of its
 //!   lines.
@@ -39,21 +39,19 @@
 //!
 //! - A pack stays open once found. Git opens packs as needed, and may close them again.
 //! - If an object is not found, Git lists all packs again. This crate lists only folders in which
-//!   names have changed, and each folder at most twice after a change. A listing does not count if a
-//!   file could not be opened or read: each look-up that finds no object then lists the folder.
+//!   names have changed, and each folder at most twice after a change.
 //! - Packs with an index of version 1 and packs of version 3 are ignored. Git reads both.
 //!   Multi-pack indexes, bitmaps and commit-graphs are not read.
 //! - Each open pack uses a file descriptor, and the system limits the number of open files. A
 //!   repository with about a thousand packs must be repacked with `git gc`.
-//! - If an object is missing and a pack or an alternate was ignored, the fault names the pack or
-//!   the alternate. Git reports only that the object is missing.
+//! - If an object is missing and a pack was ignored, the fault names that pack. Git reports only
+//!   that the object is missing.
 //! - If a delta base is broken in its pack, another copy is used, as in Git. In this crate the copy
-//!   must be no larger than 64 MiB, and all bases of the copy must be intact. At most 15 bases of a
+//!   must be no larger than 4 MiB, and all bases of the copy must be intact. At most 15 bases of a
 //!   chain may be replaced by copies.
 //! - A quoted path in `info/alternates`, or a path that is not UTF-8, is a fault. Git reads quoted
 //!   paths and paths that are not UTF-8.
-//! - An alternate that is missing or cannot be opened is ignored. Git also ignores it, and prints
-//!   an error.
+//! - A missing alternate is ignored. Git also ignores it, and prints an error.
 //! - A pack entry must not have bytes after its stream. Git accepts bytes after the stream.
 //! - A pack whose index has an offset outside the pack is ignored. In Git only the object with that
 //!   offset is broken.
@@ -131,7 +129,8 @@ pub use crate::entry::RawEntry;
 pub use crate::fault::{Cause, FileFault, StoreFault};
 pub use crate::files::{FolderTime, ObjectFiles, OpenPack};
 pub use crate::limits::{
-    MAX_ALTERNATES, MAX_DEPTH, MAX_FOLDERS, MAX_INDEX, MAX_KEPT, MAX_NAMES, MAX_OBJECT, MAX_STREAM,
+    MAX_ALTERNATES, MAX_BASE, MAX_DEPTH, MAX_FOLDERS, MAX_INDEX, MAX_KEPT, MAX_NAMES, MAX_OBJECT,
+    MAX_STREAM,
 };
 pub use crate::loose_folders::LooseFolders;
 pub use crate::memory::{MemoryFiles, MemoryPack};

@@ -103,8 +103,7 @@ fn are_current(asks: &Asks<Global>, refs: &Refs<Global>) -> bool {
     })
 }
 
-// Returns whether each requested object exists. Looks them up in ascending order of their ids,
-// which is quickest.
+// Returns whether each requested object exists.
 fn are_stored<F: ObjectFiles>(
     alloc: Global,
     files: &F,
@@ -112,10 +111,7 @@ fn are_stored<F: ObjectFiles>(
     asks: &Asks<Global>,
 ) -> Result<bool, RepositoryFault<Global>> {
     let mut reader = QuickReader::open(files, alloc, path)?;
-    let mut ids = asks.ids(alloc)?;
-    ids.sort_unstable();
-    ids.dedup();
-    for id in &ids {
+    for id in &asks.ids(alloc)? {
         if !reader.holds(id)? {
             return Ok(false);
         }

@@ -81,8 +81,7 @@ fn graph_of_tips<F: ObjectFiles, A: Allocator + Copy>(
 }
 
 // Returns the ids that refs and a detached HEAD point to, and whose peeled objects `packed-refs`
-// does not list. The ids are sorted and distinct, because a `QuickReader` finds ids in ascending
-// order most quickly.
+// does not list.
 fn unpeeled_ids<A: Allocator + Copy>(
     alloc: A,
     listed: &PeeledRefs<A>,
@@ -96,8 +95,6 @@ fn unpeeled_ids<A: Allocator + Copy>(
     if let Head::Id(id) = &listed.head {
         ids.push(*id)?;
     }
-    ids.sort_unstable();
-    ids.dedup();
     Ok(ids)
 }
 
