@@ -92,12 +92,16 @@ def put_loose(path, kind, body):
 
 def put_pack(path, objects):
     """Puts a pack and its index in place, the pack first. It returns the path of both, without an ending."""
-    rows, text, start = [], pack_of(objects), 12
-    for kind, body in objects:
-        entry = entry_of(kind, body)
-        rows.append((id_of(kind, body), zlib.crc32(entry), start))
+    return put_entries(path, [(id_of(kind, body), entry_of(kind, body)) for kind, body in objects])
+
+
+def put_entries(path, entries):
+    """The same, for entries and the ids of their objects. Of several entries with one id, the index has the first one first."""
+    rows, text, start = [], pack([entry for _, entry in entries]), 12
+    for id, entry in entries:
+        rows.append((id, zlib.crc32(entry), start))
         start += len(entry)
-    rows = sorted({row[0]: row for row in rows}.values())
+    rows.sort(key=lambda row: row[0])
     firsts = [row[0][0] for row in rows]
     fans = [bisect_right(firsts, first) for first in range(256)]
     index = b"\xfftOc\0\0\0\2" + struct.pack(">256I", *fans) + b"".join(row[0] for row in rows)

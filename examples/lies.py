@@ -45,6 +45,11 @@ def by_id(base, delta):
     return head(7, len(delta)) + base + zlib.compress(delta)
 
 
+def by_offset(back, delta):
+    """A delta whose base begins so many bytes before it, 127 at most."""
+    return head(6, len(delta)) + bytes([back]) + zlib.compress(delta)
+
+
 def with_trailer(text):
     return text + hashlib.sha1(text).digest()
 

@@ -17,12 +17,13 @@ import threading
 import time
 from concurrent.futures import ThreadPoolExecutor
 
-from bare import write
+from bare import put_entries, write
 from both_ends import (
     BRANCH, ENV, Gitrepo, GitDaemon, add_history, answer_to, attempt, faults_of, git, has_git, hello, left_behind,
     new_repository, objects, packet, refs, stored, tip,
 )
 from layouts import make_layouts, unpacked
+from lies import WHO, by_id, by_offset, copy_of, id_of, size_of, whole
 
 PROGRAM = os.path.abspath(sys.argv[1])
 LIMIT = int(sys.argv[2]) if len(sys.argv) > 2 else 300
@@ -479,6 +480,26 @@ def large_pack(folder, ours, theirs):
             check(f"{what}: nothing left behind", not left_behind(copy), left_behind(copy))
 
 
+def stored_twice(folder, ours):
+    """A pack has a blob whole, and again as deltas of a delta of it. The pack that is served has no circle of deltas."""
+    path, first = new_repository(f"{folder}/served/stored-twice.git"), b"a line\n" * 20
+    second = first + b"more"
+    tree = b"100644 first\0" + id_of("blob", first) + b"100644 second\0" + id_of("blob", second)
+    commit = b"tree %s\n%s\nm\n" % (id_of("tree", tree).hex().encode(), WHO)
+    base, copied = whole("blob", first), copy_of(0, len(first))
+    onward = by_offset(len(base), size_of(len(first)) + size_of(len(second)) + copied + b"\4more")
+    back = by_id(id_of("blob", second), size_of(len(second)) + size_of(len(first)) + copied)
+    entries = [(first, base), (second, onward), *[(first, back)] * 8]
+    entries = [(id_of("blob", body), entry) for body, entry in entries]
+    put_entries(path, entries + [(id_of(kind, body), whole(kind, body)) for kind, body in (("tree", tree), ("commit", commit))])
+    git(path, "update-ref", BRANCH, id_of("commit", commit).hex())
+    for name, words in (("git", ["git", "clone", "--quiet", "--mirror"]), ("gitrepo", [PROGRAM, "clone", "--quiet"])):
+        what, copy = f"{name} clone of a blob that is stored twice", f"{folder}/stored-twice-{name}"
+        done = attempt(*words, ours.url("stored-twice.git"), copy)
+        if check(what, done, done):
+            same_repository(what, path, copy)
+
+
 # ---- what is broken or refused
 
 
@@ -751,6 +772,7 @@ def try_all(folder):
         many_tips(folder, ours, theirs)
         many_commits(folder, ours, theirs)
         large_pack(folder, ours, theirs)
+        stored_twice(folder, ours)
         standard_streams(folder, ours)
         check("no connection so far had a fault", not [it for it in ours.log() if "cannot" in it or "fault" in it], ours.log())
         broken_refs(folder, ours)

@@ -19,8 +19,9 @@ pub struct PackCounts {
     pub deltas: u32,
     /// The number of loose objects, which were deflated again or sent as new deltas.
     pub loose: u32,
-    /// The number of stored pack entries that could not be copied: deltas whose base is not sent,
-    /// and broken entries. The objects of these entries were deflated again or sent as new deltas.
+    /// The number of stored pack entries that could not be copied: deltas whose base is not sent or
+    /// is stored twice, and broken entries. The objects of these entries were deflated again or sent
+    /// as new deltas.
     pub renewed: u32,
     /// The number of objects counted in `loose` or `renewed` that were sent as new deltas.
     pub made: u32,
@@ -223,7 +224,7 @@ impl<A: Allocator + Copy> Copying<A> {
     }
 
     // Returns the header form of a copied entry at this offset, or `None` if the entry is a delta
-    // whose base is not sent. A delta names its base by offset if the base was already copied, and
+    // that cannot be copied. A delta names its base by offset if the base was already copied, and
     // by id otherwise.
     fn form_of<F: ObjectFiles>(
         &self,
@@ -239,7 +240,7 @@ impl<A: Allocator + Copy> Copying<A> {
             Some(offset) if 0 < offset && offset < position => {
                 Some(EntryForm::OffsetDelta(position - offset))
             }
-            _ => self.form_by_id(store.index(pack)?.id(base)?),
+            _ => self.form_by_id(store.index(pack)?.id(base)?, pack, base),
         }
     }
 
@@ -258,11 +259,24 @@ impl<A: Allocator + Copy> Copying<A> {
         Some(self.packed.get(search.ok()?)?.copied_to)
     }
 
-    // Returns the form of a delta that names this base by id, or `None` if the base is not sent.
-    fn form_by_id(&self, base: Oid) -> Option<EntryForm> {
-        match self.fates.get(&base)? {
-            Fate::Sent(_) => Some(EntryForm::RefDelta(base)),
-            Fate::NotSent => None,
+    // Returns the form of a delta that names this base by id. The stored delta names the copy of
+    // the base at `own_place` in the index of the pack `own_pack`. Returns `None` if the base is not
+    // sent, or if another copy in this pack or a copy in a later pack is sent.
+    //
+    // From a copied delta to a copied base, the number of the pack thus decreases, or the stored
+    // delta chain becomes shorter. New deltas name only earlier new entries. So copies of acyclic
+    // deltas form no cycle.
+    fn form_by_id(&self, base: Oid, own_pack: usize, own_place: usize) -> Option<EntryForm> {
+        let decided = self.fates.decided(&base)?;
+        let is_nameable = match decided.found {
+            Found::Packed { pack, place } => {
+                pack < own_pack || (pack == own_pack && place == own_place)
+            }
+            Found::Loose => true,
+        };
+        match decided.fate {
+            Fate::Sent(_) if is_nameable => Some(EntryForm::RefDelta(base)),
+            _ => None,
         }
     }
 

@@ -103,6 +103,14 @@ impl<A: Allocator + Copy> Fates<A> {
         }
     }
 
+    /// Returns the fate of the object with this id, and where the object was found. Returns `None`
+    /// if the fate is undecided.
+    pub fn decided(&self, id: &Oid) -> Option<Decided>
+        ensures { result ≡ decided_at self.now id.now }
+    {
+        self.map.get(id).copied()
+    }
+
     /// Returns the type that a link gives the object, if its fate was decided through a link.
     pub(crate) fn linked_kind(&self, id: &Oid) -> Option<ObjectType>
         ensures { result ≡ linked_kind (decided_at self.now id.now) }
