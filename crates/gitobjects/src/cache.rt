@@ -1,6 +1,6 @@
 //! A cache of delta bases.
 
-use crate::limits::{MAX_BASE, MAX_KEPT};
+use crate::limits::MAX_KEPT;
 use crate::object::Object;
 use std::alloc::{AllocError, Allocator};
 
@@ -54,11 +54,11 @@ impl<A: Allocator + Copy> BaseCache<A> {
         self.get(spot).is_some()
     }
 
-    /// Caches an object, unless it is too large. If the cache would exceed its size limit, all
-    /// other objects are removed first.
+    /// Caches an object, unless the object alone exceeds the size limit of the cache. If the cache
+    /// would exceed this limit, all other objects are removed first.
     pub(crate) fn put(&mut self, spot: Spot, object: Object<A>) -> Result<(), AllocError> {
         let size = object.body.len();
-        if size > MAX_BASE {
+        if size > MAX_KEPT {
             return Ok(());
         }
         if self.bytes.saturating_add(size) > MAX_KEPT {

@@ -47,7 +47,7 @@
 //! - If an object is missing and a pack was ignored, the fault names that pack. Git reports only
 //!   that the object is missing.
 //! - If a delta base is broken in its pack, another copy is used, as in Git. In this crate the copy
-//!   must be no larger than 4 MiB, and all bases of the copy must be intact. At most 15 bases of a
+//!   must be no larger than 64 MiB, and all bases of the copy must be intact. At most 15 bases of a
 //!   chain may be replaced by copies.
 //! - A quoted path in `info/alternates`, or a path that is not UTF-8, is a fault. Git reads quoted
 //!   paths and paths that are not UTF-8.
@@ -129,8 +129,7 @@ pub use crate::entry::RawEntry;
 pub use crate::fault::{Cause, FileFault, StoreFault};
 pub use crate::files::{FolderTime, ObjectFiles, OpenPack};
 pub use crate::limits::{
-    MAX_ALTERNATES, MAX_BASE, MAX_DEPTH, MAX_FOLDERS, MAX_INDEX, MAX_KEPT, MAX_NAMES, MAX_OBJECT,
-    MAX_STREAM,
+    MAX_ALTERNATES, MAX_DEPTH, MAX_FOLDERS, MAX_INDEX, MAX_KEPT, MAX_NAMES, MAX_OBJECT, MAX_STREAM,
 };
 pub use crate::loose_folders::LooseFolders;
 pub use crate::memory::{MemoryFiles, MemoryPack};

@@ -25,11 +25,9 @@ pub const MAX_FOLDERS: usize = 1_024;
 /// The maximum total size of the names in one pack folder: 64 MiB.
 pub const MAX_NAMES: usize = 67_108_864;
 
-/// The maximum total size of the delta bases that a reader caches: 64 MiB.
+/// The maximum total size of the delta bases that a reader caches: 64 MiB. A base of this size is
+/// cached alone.
 pub const MAX_KEPT: usize = 67_108_864;
-
-/// The maximum size of one delta base that a reader caches: 4 MiB.
-pub const MAX_BASE: usize = 4_194_304;
 
 /// The maximum size of a requested object that is cached: 64 KiB. The next requested object may be
 /// a delta against this object.

@@ -22,8 +22,9 @@ pub enum PackFileFault {
     Thin,
     /// A limit is exceeded: the number of objects, the size of an object, the total size, the
     /// memory for delta bases, or the size of a written pack. A chain of more than 8,191 deltas
-    /// causes the same fault. So does an entry whose header and zlib stream have more than 128 MiB
-    /// together, or a size or offset that an entry header cannot encode.
+    /// causes the same fault, and so does a chain whose objects have more than 4 GiB together. So
+    /// does an entry whose header and zlib stream have more than 128 MiB together, or a size or
+    /// offset that an entry header cannot encode.
     TooLarge,
     /// The spool cannot store the pack, or cannot return its bytes. If a stream that is read back
     /// cannot be inflated, the kind is `InvalidData`.

@@ -22,6 +22,10 @@ use std::io::ErrorKind;
 // git-fast-import(1). The limit bounds the cost of reading the last object of a chain.
 const MAX_DEPTH: usize = 8_191;
 
+// The maximum total size of the objects of a chain: 4 GiB. Reading the last object of a chain makes
+// all of them.
+const MAX_CHAIN: usize = 4_294_967_296;
+
 // An object to which deltas are applied.
 #[derive(Drop)]
 struct Base<A: Allocator + Copy> {
@@ -29,6 +33,8 @@ struct Base<A: Allocator + Copy> {
     body: Vec<u8, A>,
     // The number of deltas between the undeltified object of the chain and this object.
     depth: usize,
+    // The total size of the objects from the undeltified object of the chain to this object.
+    chain_size: usize,
     // The deltas against this object that are not applied yet.
     remaining: Cursor,
 }
@@ -105,10 +111,12 @@ impl<'a, S: Spool, A: Allocator + Copy> Resolver<'a, S, A> {
             return Ok(());
         }
         let body = self.take_stream(index, &entry)?;
+        let chain_size = body.len();
         self.push_base(Base {
             kind: object.kind,
             body,
             depth: 0,
+            chain_size,
             remaining,
         })
     }
@@ -223,6 +231,7 @@ impl<'a, S: Spool, A: Allocator + Copy> Resolver<'a, S, A> {
             return Err(PackFileFault::Entry(index));
         };
         self.count(body.len())?;
+        let chain_size = self.next_chain_size(body.len())?;
         self.release_finished_base();
         let id = id_of(kind, body.as_slice());
         visitor.visit(&id, kind, body.as_slice())?;
@@ -235,6 +244,7 @@ impl<'a, S: Spool, A: Allocator + Copy> Resolver<'a, S, A> {
                 kind,
                 body,
                 depth,
+                chain_size,
                 remaining,
             })?;
         }
@@ -249,6 +259,20 @@ impl<'a, S: Spool, A: Allocator + Copy> Resolver<'a, S, A> {
             Some(base) => Ok(base.depth.saturating_add(1)),
             None => Ok(1),
         }
+    }
+
+    // Returns the total size of the objects of the chain after an object of `size` bytes is added.
+    // Fails with `TooLarge` if the total size exceeds the limit.
+    fn next_chain_size(&self, size: usize) -> Result<usize, PackFileFault> {
+        let before = match self.bases.last() {
+            Some(base) => base.chain_size,
+            None => 0,
+        };
+        let total = before.saturating_add(size);
+        if total > MAX_CHAIN {
+            return Err(PackFileFault::TooLarge);
+        }
+        Ok(total)
     }
 
     // Fails with `TooLarge` if `more` additional bytes would exceed the memory limit.
