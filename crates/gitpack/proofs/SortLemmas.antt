@@ -4,7 +4,7 @@ use Rattle.std.specs.Cmp.{IsStrictWeakOrder, IsTotalOrder}
 use Rattle.std.specs.Cmp.Rules.{comparing}
 use Rattle.std.specs.List.{HoldsAt, IsAllAdjacentAnswer}
 use Rattle.std.specs.List.Sorted.{IsBinarySearchResult, IsSortedByKey}
-use Rattle.std.specs.Ordering.{is_lt, ordering_reverse, ordering_then}
+use Rattle.std.specs.Ordering.{is_gt, is_lt, ordering_index, ordering_reverse, ordering_then}
 use Rattle.std.specs.declared.cmp.Ordering.{Ordering}
 use Rattle.std.specs.declared.cmp.Ordering.TheVariants.{Less, Equal, Greater}
 use Rattle.std.proofs.lemmas.Bool.{false≢true}
@@ -63,6 +63,16 @@ id_is_itself a b is = ap (λ c. id_cmp a c) (sym is) ∙ own_reverse (id_cmp a a
 not_both : {o : Ordering} (p : Ordering) → o ≡ Equal → o ≡ p → (p ≡ Equal → ⊥) → ⊥
 not_both p equal is differ = differ (sym is ∙ equal)
 
+lt_is_less : (o : Ordering) → IsTrue (is_lt o) → o ≡ Less
+lt_is_less Less h = refl
+lt_is_less Equal h = cc
+lt_is_less Greater h = cc
+
+gt_is_greater : (o : Ordering) → IsTrue (is_gt o) → o ≡ Greater
+gt_is_greater Less h = cc
+gt_is_greater Equal h = cc
+gt_is_greater Greater h = refl
+
 lt_or_ge : (k n : ℕ) → (k < n) ⊎ (n ≤ k)
 lt_or_ge k zero = inr (omega arith)
 lt_or_ge zero (suc n) = inl (omega arith)
@@ -79,6 +89,19 @@ module _ {X : Type 0} (key : X → Id) (entries : List X) (id : Id) (place : ℕ
       elim (lt_or_ge k place) [
         | inl below ↦ let less = parts.0 k d (omega arith) below in not_both Less equal less (λ h. cc)
         | inr above ↦ let more = parts.1 k d above in_list in not_both Greater equal more (λ h. cc)
+      ]
+
+  -- the key at `place` is less than the id, and the key at the next place is greater
+  pub no_id_between : (next : ℕ) → IsSortedByKey key id_cmp entries → next ≤ place + 1 → place < length entries
+      → HoldsAt (λ e. IsTrue (is_lt (id_cmp (key e) id))) entries place → HoldsAt (λ e. IsTrue (is_gt (id_cmp (key e) id))) entries next → All (λ e. key e ≢ id) entries
+  no_id_between next sorted near inside less greater k d in_list same =
+      let rises = searchable_from_sorted ids_ordered key entries id sorted in
+      let equal = ap ordering_index (id_is_itself (key (get_or entries k d)) id same) in
+      elim (lt_or_ge place k) [
+        | inl above ↦ let up = rises next k d (omega (arith, near, above)) in_list in
+            let high = ap ordering_index (gt_is_greater _ (greater d)) in omega (arith, up, high, equal)
+        | inr below ↦ let up = rises k place d below inside in
+            let low = ap ordering_index (lt_is_less _ (less d)) in omega (arith, up, low, equal)
       ]
 
 pub object_order : IsStrictWeakOrder (λ x y. is_lt (id_cmp (object_id x) (object_id y)))

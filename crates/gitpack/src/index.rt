@@ -1,7 +1,9 @@
 //! The pack index of version 2 (gitformat-pack(5)).
 
-ghost use Rattle.std.specs.Prelude.{◌≡◌, ◌==◌, ◌≢◌, ◌^◌, ◌<◌, ◌≤◌, ◌↔◌, All, IfOk, IfSome, IsTrue, MatchOption, length};
+ghost use Rattle.std.specs.Prelude.{◌≡◌, ◌==◌, ◌≢◌, ◌^◌, ◌<◌, ◌≤◌, ◌↔◌, All, IfOk, IsTrue, MatchOption, length};
 ghost use Rattle.std.specs.List.{HoldsAt};
+ghost use Rattle.std.specs.Ordering.{is_gt, is_lt};
+ghost use Rattle.gname.specs.Ids.{id_cmp};
 ghost use Rattle.gitpack.specs.Indexes.{AreEntries, IsLine, ReadsIndex};
 
 use crate::frame::is_same;
@@ -110,10 +112,11 @@ impl<A: Allocator + Copy> PackIndex<A> {
         ensures { MatchOption result (All (λ e. e.id ≢ id.now) self.now.entries)
             (HoldsAt (λ e. e.id ≡ id.now) self.now.entries) }
     {
-        let fronts = self.fronts.as_slice();
-        match find_front(self.entries.as_slice(), fronts, &self.ends, id) {
-            Some(place) => Some(place),
-            None => find(self.entries.as_slice(), id),
+        let entries = self.entries.as_slice();
+        match find_front(entries, self.fronts.as_slice(), &self.ends, id) {
+            Ok(place) => Some(place),
+            Err(place) if is_gap(entries, place, id) => None,
+            Err(_) => find(entries, id),
         }
     }
 
@@ -158,23 +161,64 @@ impl<A: Allocator + Copy> PackIndex<A> {
     }
 }
 
-// Searches for an id by its first eight bytes. Returns the position of an entry with the id, or
-// `None` if the search finds none. The search reads only a small part of `fronts`. If two ids begin
-// with the same eight bytes, the search can miss one of them.
-fn find_front(entries: &[IndexEntry], fronts: &[u64], ends: &[u32; 256], id: &Oid) -> Option<usize>
-    ensures { IfSome result (HoldsAt (λ e. e.id ≡ id.now) entries.now) }
+// Searches for an id by its first eight bytes. Returns the position of an entry with the id. If the
+// search finds none, returns `Err` with the likely position at which the id would be inserted. The
+// search reads only a small part of `fronts`. If two ids begin with the same eight bytes, the search
+// can miss one of them.
+fn find_front(
+    entries: &[IndexEntry],
+    fronts: &[u64],
+    ends: &[u32; 256],
+    id: &Oid,
+) -> Result<usize, usize>
+    ensures { IfOk result (HoldsAt (λ e. e.id ≡ id.now) entries.now) }
 {
     let byte = first_byte(id);
     let start = match byte.checked_sub(1) {
         Some(before) => ends[before] as usize,
         None => 0,
     };
-    let part = fronts.get(start..ends[byte] as usize)?;
-    let near = part.binary_search(&front_of(id)).ok()?;
+    let Some(part) = fronts.get(start..ends[byte] as usize) else {
+        return Err(start);
+    };
+    let near = match part.binary_search(&front_of(id)) {
+        Ok(near) | Err(near) => near,
+    };
     let place = start.saturating_add(near);
     match entries.get(place) {
-        Some(entry) if entry.id == *id => Some(place),
-        _ => None,
+        Some(entry) if entry.id == *id => Ok(place),
+        _ => Err(place),
+    }
+}
+
+// Returns whether an id is between the ids of two neighbours: the entries before and at position
+// `place`. Then no entry has the id. Returns `false` if either entry does not exist.
+fn is_gap(entries: &[IndexEntry], place: usize, id: &Oid) -> bool
+    requires { AreEntries entries.now }
+    ensures { IsTrue result → All (λ e. e.id ≢ id.now) entries.now }
+{
+    is_less_at(entries, place.saturating_sub(1), id) && is_greater_at(entries, place, id)
+}
+
+// Returns whether there is an entry at position `place`, and its id is less than `id`.
+fn is_less_at(entries: &[IndexEntry], place: usize, id: &Oid) -> bool
+    ensures { IsTrue result → (place < length entries.now)
+        × (HoldsAt (λ e. IsTrue (is_lt (id_cmp e.id id.now))) entries.now place) }
+{
+    match entries.get(place) {
+        Some(entry) => entry.id.cmp(id).is_lt(),
+        None => false,
+    }
+}
+
+// Returns whether there is an entry at position `place`, and its id is greater than `id`.
+fn is_greater_at(entries: &[IndexEntry], place: usize, id: &Oid) -> bool
+    ensures { IsTrue result → (place < length entries.now)
+        × (HoldsAt (λ e. IsTrue (is_gt (id_cmp e.id id.now))) entries.now place) }
+{
+    match entries.get(place) {
+        Some(entry) => entry.id.cmp(id).is_gt(),
+        None => false,
     }
 }
 
