@@ -76,6 +76,15 @@ impl Cause {
         }
     }
 
+    /// Returns whether a file could not be opened or read, or a folder could not be listed. Another
+    /// attempt can succeed although no name in the folder has changed.
+    pub(crate) fn is_of_system(self) -> bool {
+        match self {
+            Cause::Open(_) | Cause::Read(_) | Cause::List(_) => true,
+            _ => false,
+        }
+    }
+
     // Returns the verb that describes the failed action.
     fn verb(self) -> &'static str {
         match self {

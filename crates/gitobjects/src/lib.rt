@@ -20,7 +20,7 @@
 //! - The private type `Window` caches at most 64 blocks of the open packs. Each block has at most
 //!   1 MiB. The window returns the correct bytes of a pack, no matter which blocks are in memory.
 //! - A private function returns whether to list a pack folder again. The result is `false` exactly
-//!   if the folder was listed at least twice since the names in it last changed.
+//!   if at least two listings count since the names in the folder last changed.
 //! - The path of a loose object is the object folder, the first two digits of the id and the other
 //!   digits, separated by slashes. The paths in `info/alternates` are read in the order of its
 //!   lines.
@@ -39,7 +39,8 @@
 //!
 //! - A pack stays open once found. Git opens packs as needed, and may close them again.
 //! - If an object is not found, Git lists all packs again. This crate lists only folders in which
-//!   names have changed, and each folder at most twice after a change.
+//!   names have changed, and each folder at most twice after a change. A listing does not count if a
+//!   file could not be opened or read: each look-up that finds no object then lists the folder.
 //! - Packs with an index of version 1 and packs of version 3 are ignored. Git reads both.
 //!   Multi-pack indexes, bitmaps and commit-graphs are not read.
 //! - Each open pack uses a file descriptor, and the system limits the number of open files. A

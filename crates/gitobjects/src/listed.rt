@@ -1,5 +1,5 @@
 //! The number of listings of a pack folder since its last change. This number determines whether
-//! the folder must be listed again.
+//! the folder must be listed again. A listing does not count if a file could not be opened or read.
 
 ghost use Rattle.std.specs.Prelude.{◌≡◌, ◌≢◌, ◌↔◌, IsTrue, Option};
 ghost use Rattle.gitobjects.specs.Listed.{ListsAgain, Twice};
@@ -11,7 +11,7 @@ use crate::files::FolderTime;
 /// time of this change. The time is `None` if the folder is missing or its time is unknown.
 #[derive(Clone, Copy, Debug)]
 pub(crate) enum Listed {
-    /// The folder was never listed.
+    /// No listing of the folder counts.
     Never,
     /// The folder was listed once.
     Once(Option<FolderTime>),

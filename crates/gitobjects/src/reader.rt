@@ -18,7 +18,8 @@ use std::alloc::{AllocError, Allocator};
 ///
 /// A call that does not find an object lists the packs again, because Git may have packed the
 /// object meanwhile. A pack folder is listed at most twice after each change of the names in it,
-/// even if many objects are not found. [`ObjectReader::refresh`] lists all folders.
+/// even if many objects are not found. A listing does not count if a file could not be opened or
+/// read, so each such call then lists the folder once. [`ObjectReader::refresh`] lists all folders.
 #[derive(Drop)]
 pub struct ObjectReader<'f, F: ObjectFiles, A: Allocator + Copy> {
     pub(crate) store: ObjectStore<'f, F, A>,

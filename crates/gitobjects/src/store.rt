@@ -74,7 +74,7 @@ impl<'f, F: ObjectFiles, A: Allocator + Copy> ObjectStore<'f, F, A> {
     }
 
     /// Lists each pack folder that was listed fewer than twice since the names in it last changed.
-    /// Returns whether a folder was listed.
+    /// Returns whether a folder was listed. A listing does not count if a system call failed.
     ///
     /// Fails only if out of memory.
     pub(crate) fn list_stale(&mut self) -> Result<bool, StoreFault<A>> {
