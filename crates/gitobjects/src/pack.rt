@@ -184,7 +184,7 @@ impl<A: Allocator + Copy> PackFile<A> {
         start: usize,
     ) -> Result<LocalForm, Cause> {
         let length = self.length_of(start)?;
-        let bytes = window.read(self.number, start, length.min(MAX_HEAD))?;
+        let bytes = window.read_few(self.number, start, length.min(MAX_HEAD))?;
         match read_head(bytes.as_slice()) {
             Some(head) => self.local_form(start, head.form),
             None => Err(Cause::Head),

@@ -100,6 +100,26 @@ impl<P: OpenPack + Drop, A: Allocator + Copy> Window<P, A> {
         Ok(Vec::from_slice(self.alloc, bytes)?)
     }
 
+    /// Returns `count` bytes of a pack starting at `start`, as [`Window::read`] does, but keeps no
+    /// further block in memory.
+    pub(crate) fn read_few(
+        &mut self,
+        pack: usize,
+        start: usize,
+        count: usize,
+    ) -> Result<Vec<u8, A>, Cause>
+        ensures part { IfOk result (λ bytes. IsPartOf self.old pack start bytes.items) }
+        ensures count { IfOk result (λ bytes. vec_len bytes ≡ count) }
+        ensures same { self.new ≡ self.old }
+    {
+        let offset = start % BLOCK;
+        if self.holds(pack, start - offset) {
+            self.read(pack, start, count)
+        } else {
+            self.load(pack, start, count)
+        }
+    }
+
     // Returns whether the block at this offset of a pack is in memory.
     fn holds(&self, pack: usize, first: usize) -> bool {
         self.block_at(pack, first).is_some()
