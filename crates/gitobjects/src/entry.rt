@@ -29,8 +29,8 @@ pub struct RawEntry<A: Allocator + Copy> {
     pub bytes: Vec<u8, A>,
 }
 
-// The maximum ratio of the inflated size of a zlib stream to the length of the stream.
-const MAX_RATIO: usize = 1_032;
+/// The maximum ratio of the inflated size of a zlib stream to the length of the stream.
+pub(crate) const MAX_RATIO: usize = 1_032;
 
 // The maximum length of a match in a zlib stream (RFC 1951, section 3.2.5), and the number of extra
 // bytes that an inflater reserves.
