@@ -103,7 +103,8 @@ fn are_current(asks: &Asks<Global>, refs: &Refs<Global>) -> bool {
     })
 }
 
-// Returns whether each requested object exists.
+// Returns whether each requested object exists. Looks them up in ascending order of their ids,
+// which is quickest.
 fn are_stored<F: ObjectFiles>(
     alloc: Global,
     files: &F,
@@ -111,7 +112,10 @@ fn are_stored<F: ObjectFiles>(
     asks: &Asks<Global>,
 ) -> Result<bool, RepositoryFault<Global>> {
     let mut reader = QuickReader::open(files, alloc, path)?;
-    for id in &asks.ids(alloc)? {
+    let mut ids = asks.ids(alloc)?;
+    ids.sort_unstable();
+    ids.dedup();
+    for id in &ids {
         if !reader.holds(id)? {
             return Ok(false);
         }

@@ -81,7 +81,8 @@ fn graph_of_tips<F: ObjectFiles, A: Allocator + Copy>(
 }
 
 // Returns the ids that refs and a detached HEAD point to, and whose peeled objects `packed-refs`
-// does not list.
+// does not list. The ids are sorted and distinct, because a `QuickReader` finds ids in ascending
+// order most quickly.
 fn unpeeled_ids<A: Allocator + Copy>(
     alloc: A,
     listed: &PeeledRefs<A>,
@@ -95,6 +96,8 @@ fn unpeeled_ids<A: Allocator + Copy>(
     if let Head::Id(id) = &listed.head {
         ids.push(*id)?;
     }
+    ids.sort_unstable();
+    ids.dedup();
     Ok(ids)
 }
 
