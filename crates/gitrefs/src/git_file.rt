@@ -144,14 +144,52 @@ fn try_lock<R: Files>(files: &R, path: &str, lock_path: &str) -> Result<(), Caus
     }
 }
 
+// Creates the missing parent directories of a path, and syncs their names.
 fn make_parents<R: Files>(files: &R, path: &str) -> Result<(), Cause> {
     let Some(parent) = Path::new(path).parent() else {
         return Ok(());
     };
+    if parent.is_dir(files) {
+        return Ok(());
+    }
+    let missing = count_missing(files, parent);
     match fs::create_dir_all(files, parent) {
-        Ok(()) => Ok(()),
+        Ok(()) => {
+            sync_names(files, parent, missing);
+            Ok(())
+        }
         Err(error) if is_no_directory(error.kind()) => Err(Cause::Conflict),
         Err(error) => Err(Cause::System(error)),
+    }
+}
+
+// Returns the number of missing directories among this directory and its parents. Stops at the
+// first directory that exists.
+fn count_missing<R: Files>(files: &R, directory: Path<'_>) -> usize {
+    let length = directory.as_str().len();
+    let mut next = directory;
+    for missing in 0..length {
+        if next.exists(files) {
+            return missing;
+        }
+        match next.parent() {
+            Some(parent) => next = parent,
+            None => return missing,
+        }
+    }
+    length
+}
+
+// Syncs the names of this directory and of its parents, `count` names in all. A failure to sync a
+// directory is ignored.
+fn sync_names<R: Files>(files: &R, directory: Path<'_>, count: usize) {
+    let mut next = directory;
+    for _ in 0..count {
+        let _ = sync_directory(files, next.as_str());
+        match next.parent() {
+            Some(parent) => next = parent,
+            None => return,
+        }
     }
 }
 
