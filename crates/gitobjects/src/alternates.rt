@@ -23,6 +23,8 @@ pub(crate) struct Folder<A: Allocator + Copy> {
     // The faults of the packs that were left out, or the fault of the pack folder if the folder
     // could not be listed.
     pub(crate) left_out: Vec<FileFault<A>, A>,
+    // The fault of the first alternate that was left out. Only the repository's own folder has it.
+    left_out_alternate: Option<FileFault<A>>,
     // The number of alternates files on the way to this folder: 0 for the repository's own folder.
     depth: usize,
 }
@@ -36,14 +38,24 @@ impl<A: Allocator + Copy> Folder<A> {
             pack_folder,
             listed: Listed::Never,
             left_out: Vec::new(alloc),
+            left_out_alternate: None,
             depth,
         })
+    }
+
+    /// Returns the first fault that is recorded in this folder, or `None` if nothing was left out.
+    pub(crate) fn first_fault(&self) -> Option<&FileFault<A>> {
+        match self.left_out.first() {
+            Some(fault) => Some(fault),
+            None => self.left_out_alternate.as_ref(),
+        }
     }
 }
 
 /// Returns the object folder of a repository, its alternates, and their alternates recursively. As
 /// in Git, alternates are at most six levels deep. Missing alternates and repeated folders are
-/// skipped, so the search ends even if alternates are cyclic.
+/// skipped, so the search ends even if alternates are cyclic. An alternate that cannot be opened is
+/// left out, and the first such fault is recorded in the repository's own folder.
 pub(crate) fn object_folders<F: ObjectFiles, A: Allocator + Copy>(
     files: &F,
     alloc: A,
@@ -193,8 +205,8 @@ fn path_of<A: Allocator + Copy>(
     }
 }
 
-// Adds the folder with this path, if the folder exists and was not added before. A fault names the
-// path.
+// Adds the folder with this path, if the folder exists and was not added before. A folder that
+// cannot be opened is left out. A fault names the path.
 fn add_alternate<F: ObjectFiles, A: Allocator + Copy>(
     files: &F,
     alloc: A,
@@ -204,7 +216,27 @@ fn add_alternate<F: ObjectFiles, A: Allocator + Copy>(
 ) -> Result<(), StoreFault<A>> {
     match add_folder(files, alloc, folders, path, depth) {
         Ok(()) => Ok(()),
+        Err(Cause::Open(kind)) => leave_out(folders, fault_at(alloc, path, Cause::Open(kind))),
         Err(cause) => Err(fault_at(alloc, path, cause)),
+    }
+}
+
+// Records the fault of an alternate that is left out, unless such a fault is already recorded.
+// Fails only if the fault is `Memory`.
+fn leave_out<A: Allocator + Copy>(
+    folders: &mut Vec<Folder<A>, A>,
+    fault: StoreFault<A>,
+) -> Result<(), StoreFault<A>> {
+    match fault {
+        StoreFault::File(fault) => {
+            if let Some(own) = folders.first_mut() {
+                if own.left_out_alternate.is_none() {
+                    own.left_out_alternate = Some(fault);
+                }
+            }
+            Ok(())
+        }
+        other => Err(other),
     }
 }
 
@@ -215,10 +247,12 @@ fn add_folder<F: ObjectFiles, A: Allocator + Copy>(
     path: &str,
     depth: usize,
 ) -> Result<(), Cause> {
-    match files.canonical(alloc, path)? {
-        Some(path) => add_new(alloc, folders, path, depth),
-        None => Ok(()),
-    }
+    let Some(path) = files.canonical(alloc, path)? else {
+        return Ok(());
+    };
+    // This call fails if the process may not search the folder.
+    let _is_there = files.exists(join(alloc, path.as_str(), "pack")?.as_str())?;
+    add_new(alloc, folders, path, depth)
 }
 
 // Adds the folder with this canonical path, if the folder was not added before.

@@ -32,8 +32,8 @@ pub struct QuickReader<'f, F: ObjectFiles, A: Allocator + Copy> {
 }
 
 impl<'f, F: ObjectFiles, A: Allocator + Copy> QuickReader<'f, F, A> {
-    /// Opens the objects of the Git directory with this path. Unusable packs, and the packs of a
-    /// folder that cannot be listed, are left out.
+    /// Opens the objects of the Git directory with this path. Unusable packs, the packs of a folder
+    /// that cannot be listed, and alternates that cannot be opened are left out.
     ///
     /// Fails for the same reasons as [`crate::ObjectStore::open`].
     pub fn open(

@@ -42,7 +42,8 @@ pub struct ObjectStore<'f, F: ObjectFiles, A: Allocator + Copy> {
 
 impl<'f, F: ObjectFiles, A: Allocator + Copy> ObjectStore<'f, F, A> {
     /// Opens all packs of the Git directory with this path, without reading objects. As in Git, a
-    /// pack that cannot be opened or used is left out: see [`ObjectStore::left_out`].
+    /// pack or an alternate that cannot be opened or used is left out: see
+    /// [`ObjectStore::left_out`].
     ///
     /// Fails with `Memory`, or with a fault that names the missing object folder or the unusable
     /// alternates file.
@@ -87,19 +88,19 @@ impl<'f, F: ObjectFiles, A: Allocator + Copy> ObjectStore<'f, F, A> {
         Ok(is_listed)
     }
 
-    /// Returns the fault of the first pack or pack folder that was left out, or `None` if nothing
-    /// was left out.
+    /// Returns the fault of the first pack, pack folder or alternate that was left out, or `None`
+    /// if nothing was left out.
     pub fn left_out(&self) -> Option<&FileFault<A>> {
         for folder in &self.folders {
-            if let Some(fault) = folder.left_out.first() {
+            if let Some(fault) = folder.first_fault() {
                 return Some(fault);
             }
         }
         None
     }
 
-    /// Returns the fault for a missing object: the fault of the first pack or pack folder that was
-    /// left out, or `Missing` if nothing was left out.
+    /// Returns the fault for a missing object: the fault of the first pack, pack folder or
+    /// alternate that was left out, or `Missing` if nothing was left out.
     pub(crate) fn missing(&self, id: &Oid) -> StoreFault<A> {
         match self.left_out() {
             Some(fault) => fault_at(self.alloc, fault.path.as_str(), fault.cause),
