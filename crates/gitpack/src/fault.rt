@@ -22,7 +22,7 @@ pub enum PackFileFault {
     Thin,
     /// A limit is exceeded: the number of objects, the size of an object, the total size, the
     /// memory for delta bases, or the size of a written pack. A chain of more than 8,191 deltas
-    /// causes the same fault, and so does a chain whose objects have more than 4 GiB together. So
+    /// causes the same fault, and so does a chain whose objects have more than 16 GiB together. So
     /// does an entry whose header and zlib stream have more than 128 MiB together, or a size or
     /// offset that an entry header cannot encode.
     TooLarge,

@@ -167,9 +167,9 @@ fn lines_of<A: Allocator + Copy>(
 /// Fails with `Entry` if an entry is malformed or missing, and with `Thin` if the base of a delta
 /// is not in the pack. Fails with `TooLarge` if the pack exceeds a limit, a chain has more than
 /// 8,191 deltas, or there are 2^31 objects or more. The same fault occurs if the header and the
-/// zlib stream of an entry have more than 128 MiB together, or the objects of a chain more than 4
-/// GiB. Fails with the visitor's fault if the visitor fails, or with `Memory` if out of memory. The
-/// visitor may already have received objects when this function fails.
+/// zlib stream of an entry have more than 128 MiB together, or the objects of a chain more than
+/// 16 GiB. Fails with the visitor's fault if the visitor fails, or with `Memory` if out of memory.
+/// The visitor may already have received objects when this function fails.
 ///
 /// The pack is copied into memory once.
 pub fn index_pack<A: Allocator + Copy, V: ObjectVisitor>(

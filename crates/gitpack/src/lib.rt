@@ -51,7 +51,7 @@
 //!   2^31, in the order of the entries. The index's own checksum is not checked.
 //! - A pack of 2^31 objects or more is refused. A thin pack is refused, and so is a pack with a
 //!   chain of more than 8,191 deltas. Git can read longer chains, but no Git command makes them.
-//!   A chain whose objects have more than 4 GiB together is also refused; Git reads it.
+//!   A chain whose objects have more than 16 GiB together is also refused; Git reads it.
 //!   Indexing refuses a pack with an entry of more than 128 MiB. This limit covers the entry header
 //!   and the zlib stream.
 //! - A pack may contain the same object twice, and then the index lists both entries. Git accepts a

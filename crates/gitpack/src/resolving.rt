@@ -22,9 +22,10 @@ use std::io::ErrorKind;
 // git-fast-import(1). The limit bounds the cost of reading the last object of a chain.
 const MAX_DEPTH: usize = 8_191;
 
-// The maximum total size of the objects of a chain: 4 GiB. Reading the last object of a chain makes
-// all of them.
-const MAX_CHAIN: usize = 4_294_967_296;
+// The maximum total size of the objects of a chain: 16 GiB. Reading the last object of a chain makes
+// all of them. Git's chains have at most 50 deltas by default: 51 objects of 256 MiB are below the
+// limit.
+const MAX_CHAIN: usize = 17_179_869_184;
 
 // An object to which deltas are applied.
 #[derive(Drop)]

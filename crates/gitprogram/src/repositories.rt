@@ -54,8 +54,8 @@ impl<'d, D> Repositories<'d, D> {
         }
     }
 
-    // Does the same for a key with the present refs and HEAD of a repository. Drops the entries with
-    // older refs or HEAD that no connection uses.
+    // Returns the cached repository with this key, which has the present refs and HEAD. First drops
+    // the entries with older refs or HEAD that no connection uses.
     fn find_present(&self, key: CacheKey<'_>) -> Result<Option<Shared<'d, D>>, AllocError> {
         if let Ok(mut cache) = self.cache.try_borrow_mut() {
             cache.drop_others(key);

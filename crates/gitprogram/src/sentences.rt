@@ -235,7 +235,7 @@ fn write_store_file<W: fmt::Write>(
     let reason = match fault.cause {
         Cause::Open(ErrorKind::NotFound) | Cause::List(ErrorKind::NotFound) => "there is none",
         Cause::Open(ErrorKind::Other | ErrorKind::Uncategorized) => {
-            "the cause is unknown. If too many files are open, 'git gc' makes one pack of all"
+            "the cause is unknown; if too many files are open, 'git gc' makes one pack of all"
         }
         _ => return fmt::Display::fmt(fault, f),
     };

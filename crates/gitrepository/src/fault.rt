@@ -285,7 +285,7 @@ fn write_pack<W: fmt::Write>(fault: PackFileFault, f: &mut fmt::Formatter<W>) ->
         ),
         PackFileFault::Thin => f.write_str("the base of a delta is not in the pack"),
         PackFileFault::TooLarge => f.write_str(
-            "the pack is too large to index: it may have 1,048,576 objects, of which 485,000 are commits; they may have 64 GiB and name two million ids; an object may have 256 MiB, or 32 MiB among a million; an entry may have 128 MiB; a chain may have 8,191 deltas and 4 GiB",
+            "the pack is too large to index: it may have 1,048,576 objects, of which 485,000 are commits; they may have 64 GiB and name two million ids; an object may have 256 MiB, or 32 MiB among a million; an entry may have 128 MiB; a chain may have 8,191 deltas and 16 GiB",
         ),
         PackFileFault::Spool(kind) => write!(f, "the temporary file of the pack: {kind}"),
         PackFileFault::Format => f.write_str("the base of a delta has no SHA-1 id"),

@@ -31,7 +31,7 @@ use std::cell::RefCell;
 /// MiB, less 224 bytes for each object of the pack. The same maximum applies to the total size of a
 /// delta, its bases in memory and its result. The maximum size of a commit, tree or tag is 64 MiB,
 /// and the maximum total size of all objects and deltas is 64 GiB. A delta chain may have at most
-/// 8,191 deltas and 4 GiB of objects, and an entry of the pack at most 128 MiB. The commits, tags
+/// 8,191 deltas and 16 GiB of objects, and an entry of the pack at most 128 MiB. The commits, tags
 /// and named ids may use at most 112 MiB of memory. This is enough for about two million ids, or
 /// for 485,000 commits with a tree each. The ids that stored trees name have no such limit.
 #[derive(Drop)]
