@@ -12,7 +12,7 @@ use std::time::Duration;
 pub enum Refusal {
     /// The number of connections is at its limit.
     Full,
-    /// The number of connections from this IP address is at its limit.
+    /// The number of connections from the network of this IP address is at its limit.
     AddressLimit,
 }
 

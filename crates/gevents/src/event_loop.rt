@@ -79,7 +79,7 @@ pub struct EventLoop<'l, C: Conversation, A: Allocator + Copy> {
     // A connection that ended as soon as it started, if this end is not reported yet.
     pub(crate) ended_at_start: Option<Ended<C, A>>,
     pub(crate) slots: Slab<Slot<C, A>, A>,
-    /// The number of served peers from each IP address.
+    /// The number of served peers from each network.
     pub(crate) addresses: Addresses<A>,
     /// The number of slots of peers whose connections have ended, and whose sockets are still open.
     pub(crate) closing_count: u32,
@@ -179,13 +179,16 @@ impl<'l, C: Conversation + Drop, A: Allocator + Copy> EventLoop<'l, C, A> {
             }
             LoopStep::Moves => {
                 self.read_clock(rt);
-                Ok(self.move_one())
+                Ok(self.move_one(rt))
             }
             LoopStep::Accepts(left) => {
                 self.read_clock(rt);
                 self.accept_one(left)
             }
-            LoopStep::TimesOut(key) => Ok(self.time_out_next(key)),
+            LoopStep::TimesOut(key) => {
+                self.read_clock(rt);
+                Ok(self.time_out_next(rt, key))
+            }
         }
     }
 
@@ -225,9 +228,9 @@ impl<'l, C: Conversation + Drop, A: Allocator + Copy> EventLoop<'l, C, A> {
 
     // Gives the peer of one reported socket its turn. Returns an event if the turn ended the
     // connection.
-    fn move_one(&mut self) -> Option<Event<C, A>> {
+    fn move_one<R: Clock>(&mut self, rt: &R) -> Option<Event<C, A>> {
         match self.ready.pop() {
-            Some(key) => self.advance(key),
+            Some(key) => self.advance(rt, key),
             None => {
                 self.next_step = LoopStep::Accepts(ACCEPTS);
                 None
@@ -267,12 +270,12 @@ impl<'l, C: Conversation + Drop, A: Allocator + Copy> EventLoop<'l, C, A> {
 
     // Times out the peer at this key, if the peer is late. Returns an event if this ended the
     // connection.
-    fn time_out_next(&mut self, key: usize) -> Option<Event<C, A>> {
+    fn time_out_next<R: Clock>(&mut self, rt: &R, key: usize) -> Option<Event<C, A>> {
         if key >= self.slots.capacity() {
             self.next_step = LoopStep::Polls;
             return None;
         }
         self.next_step = LoopStep::TimesOut(key + 1);
-        self.time_out_one(key)
+        self.time_out_one(rt, key)
     }
 }

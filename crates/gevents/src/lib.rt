@@ -7,15 +7,16 @@
 //!
 //! - A turn of a peer consists of at most 256 steps. In each step the loop sends or receives bytes
 //!   once, or the conversation queues packets. Then another peer has its turn.
-//! - [`Limits`] sets the maximum number of connections, in total and for each IP address. The loop
-//!   reports any further peer as refused.
+//! - [`Limits`] sets the maximum number of connections, in total, for each IPv4 address, and for the
+//!   IPv6 addresses with the same first 64 bits. The loop reports any further peer as refused.
 //! - Each peer has separate time limits for its first message, for the first byte of each request,
 //!   and for the rest of each request. Further time limits apply to accepting sent bytes, and to
 //!   the whole connection. If a peer sends too late, the loop notifies the conversation that the
 //!   source failed, and the conversation may send its last packets. Any other late peer is
 //!   disconnected. A late peer first has one more turn, because its socket may be ready but not
 //!   reported yet. It is not timed out if more bytes can then be moved immediately. Only a peer
-//!   whose whole connection lasted too long has no further turn.
+//!   whose whole connection lasted too long has no further turn. The duration of a turn extends the
+//!   time limits of the peer that has the turn, except the limit of the whole connection.
 //! - A connection allocates memory for received bytes only when the first byte arrives. Before the
 //!   first byte, a connection needs a few hundred bytes and the memory of its conversation. The
 //!   send queue of a connection has room for two packets of the maximum size. The loop frees the

@@ -10,7 +10,8 @@ pub struct Limits {
     pub accepted: Option<u32>,
     /// The maximum number of connections at once.
     pub at_once: usize,
-    /// The maximum number of connections at once from one IP address.
+    /// The maximum number of connections at once from one IPv4 address, or from the IPv6 addresses
+    /// with the same first 64 bits.
     pub at_once_of_address: usize,
     /// The time limit for a peer to send all packets that precede the first answer, counted from
     /// the moment when the loop accepts the connection.

@@ -16,7 +16,7 @@ use gtalk::{Connection, Conversation, Turn};
 use mio::net::TcpStream;
 use std::alloc::Allocator;
 use std::io::{self, ErrorKind, Read, Write};
-use std::time::Instant;
+use std::time::{Clock, Instant};
 
 // The maximum number of bytes of one read.
 const PIECE: usize = 4_096;
@@ -55,10 +55,22 @@ enum Move {
 }
 
 impl<C: Conversation, A: Allocator + Copy> Peer<C, A> {
-    /// Moves bytes until the socket would block, the connection has ended, or the turn reaches its
-    /// limits. The turn also ends when bytes arrive after the conversation has queued packets,
-    /// because computing the next answer may take a long time.
-    pub(crate) fn advance(&mut self, now: Instant, limits: &Limits) -> After
+    /// Gives the peer its turn, and postpones the deadline of the peer by the duration of the turn.
+    /// So the time that an answer takes to compute does not count as the peer's time.
+    pub(crate) fn advance<R: Clock>(&mut self, rt: &R, now: Instant, limits: &Limits) -> After
+        ensures { EndsBy C.turn self.new.connection result }
+    {
+        let after = self.move_bytes(now, limits);
+        if let Ok(then) = Instant::now(rt) {
+            self.patience.postpone(then.duration_since(now));
+        }
+        after
+    }
+
+    // Moves bytes until the socket would block, the connection has ended, or the turn reaches its
+    // limits. The turn also ends when bytes arrive after the conversation has queued packets,
+    // because computing the next answer may take a long time.
+    fn move_bytes(&mut self, now: Instant, limits: &Limits) -> After
         ensures { EndsBy C.turn self.new.connection result }
     {
         let mut speak_calls = 0;
@@ -78,7 +90,7 @@ impl<C: Conversation, A: Allocator + Copy> Peer<C, A> {
     /// Times out the peer, if it is late. First gives the peer one more turn, because its socket
     /// may be ready but not reported yet. Does not time out the peer if more bytes can then be
     /// moved immediately. Gives no turn if the whole connection lasted too long.
-    pub(crate) fn time_out(&mut self, now: Instant, limits: &Limits) -> After
+    pub(crate) fn time_out<R: Clock>(&mut self, rt: &R, now: Instant, limits: &Limits) -> After
         ensures { EndsBy C.turn self.new.connection result }
     {
         if self.patience.is_overdue(now, limits, self.sent) {
@@ -87,7 +99,7 @@ impl<C: Conversation, A: Allocator + Copy> Peer<C, A> {
         if !self.patience.is_late(now) {
             return After::Waits;
         }
-        match self.advance(now, limits) {
+        match self.advance(rt, now, limits) {
             After::Waits if self.patience.is_late(now) => self.time_out_late(now, limits),
             after => after,
         }
@@ -107,7 +119,7 @@ impl<C: Conversation, A: Allocator + Copy> Peer<C, A> {
         }
         self.was_silent = true;
         self.fail();
-        self.advance(now, limits)
+        self.move_bytes(now, limits)
     }
 
     /// Returns the ended connection and the socket.

@@ -69,6 +69,13 @@ impl Patience {
         self.deadline = after(now, limits.taking);
     }
 
+    /// Postpones the deadline.
+    pub(crate) fn postpone(&mut self, time: Duration) {
+        if let Some(deadline) = self.deadline {
+            self.deadline = after(deadline, time);
+        }
+    }
+
     /// Returns whether the deadline of the expected action has passed.
     pub(crate) fn is_late(&self, now: Instant) -> bool {
         match self.deadline {

@@ -15,7 +15,7 @@ use mio::{Interest, Token};
 use slab::Slab;
 use std::alloc::Allocator;
 use std::net::Shutdown;
-use std::time::Instant;
+use std::time::{Clock, Instant};
 
 // The maximum number of sockets that the loop keeps open after their connections have ended.
 const MAX_CLOSING: u32 = 256;
@@ -38,21 +38,21 @@ impl<C: Conversation, A: Allocator + Copy> Slot<C, A> {
     }
 
     // Gives the peer its turn.
-    fn advance(&mut self, now: Instant, limits: &Limits) -> After
+    fn advance<R: Clock>(&mut self, rt: &R, now: Instant, limits: &Limits) -> After
         ensures { EndsSlot C.turn self.new result }
     {
         match self {
-            Slot::Talks(peer) => peer.advance(now, limits),
+            Slot::Talks(peer) => peer.advance(rt, now, limits),
             Slot::Leaves(closing) => closing.advance(),
         }
     }
 
     // Times out the peer, if it is late.
-    fn time_out(&mut self, now: Instant, limits: &Limits) -> After
+    fn time_out<R: Clock>(&mut self, rt: &R, now: Instant, limits: &Limits) -> After
         ensures { EndsSlot C.turn self.new result }
     {
         match self {
-            Slot::Talks(peer) => peer.time_out(now, limits),
+            Slot::Talks(peer) => peer.time_out(rt, now, limits),
             Slot::Leaves(closing) => closing.time_out(now),
         }
     }
@@ -60,15 +60,15 @@ impl<C: Conversation, A: Allocator + Copy> Slot<C, A> {
 
 impl<C: Conversation + Drop, A: Allocator + Copy> EventLoop<'_, C, A> {
     /// Gives the peer at this key its turn. Returns an event if the turn ended the connection.
-    pub(crate) fn advance(&mut self, key: usize) -> Option<Event<C, A>> {
-        let after = advance_at(&mut self.slots, key, self.now, self.limits);
+    pub(crate) fn advance<R: Clock>(&mut self, rt: &R, key: usize) -> Option<Event<C, A>> {
+        let after = advance_at(rt, &mut self.slots, key, self.now, self.limits);
         self.settle(key, after)
     }
 
     /// Times out the peer at this key, if it is late. Returns an event if this ended the
     /// connection.
-    pub(crate) fn time_out_one(&mut self, key: usize) -> Option<Event<C, A>> {
-        let after = time_out_at(&mut self.slots, key, self.now, self.limits);
+    pub(crate) fn time_out_one<R: Clock>(&mut self, rt: &R, key: usize) -> Option<Event<C, A>> {
+        let after = time_out_at(rt, &mut self.slots, key, self.now, self.limits);
         self.settle(key, after)
     }
 
@@ -159,7 +159,8 @@ impl<C: Conversation + Drop, A: Allocator + Copy> EventLoop<'_, C, A> {
 }
 
 // Gives the peer at this key its turn.
-fn advance_at<C: Conversation, A: Allocator + Copy>(
+fn advance_at<R: Clock, C: Conversation, A: Allocator + Copy>(
+    rt: &R,
     slots: &mut Slab<Slot<C, A>, A>,
     key: usize,
     now: Instant,
@@ -168,13 +169,14 @@ fn advance_at<C: Conversation, A: Allocator + Copy>(
     ensures { EndsAt C.turn (get slots.new key) result }
 {
     match slots.get_mut(key) {
-        Some(slot) => slot.advance(now, limits),
+        Some(slot) => slot.advance(rt, now, limits),
         None => After::Waits,
     }
 }
 
 // Times out the peer at this key, if it is late.
-fn time_out_at<C: Conversation, A: Allocator + Copy>(
+fn time_out_at<R: Clock, C: Conversation, A: Allocator + Copy>(
+    rt: &R,
     slots: &mut Slab<Slot<C, A>, A>,
     key: usize,
     now: Instant,
@@ -183,7 +185,7 @@ fn time_out_at<C: Conversation, A: Allocator + Copy>(
     ensures { EndsAt C.turn (get slots.new key) result }
 {
     match slots.get_mut(key) {
-        Some(slot) => slot.time_out(now, limits),
+        Some(slot) => slot.time_out(rt, now, limits),
         None => After::Waits,
     }
 }
