@@ -16,8 +16,9 @@ use std::marker::Model;
 use std::path::Path;
 use std::{fs, io};
 
-// The number of attempts to create a lockfile.
-const LOCK_ATTEMPTS: u32 = 3;
+// The number of attempts to create a lockfile. They take some 20 milliseconds, because the program
+// cannot sleep. Git tries for 100 milliseconds (core.filesRefLockTimeout in git-config(1)).
+const LOCK_ATTEMPTS: u32 = 4_000;
 
 /// A file of a Git directory, and its lockfile, which has the suffix `.lock`. A missing file counts
 /// as empty, and locking the file creates its parent directories. The lockfile is open only while
@@ -124,10 +125,12 @@ impl<'r, R: Files, A: Allocator + Copy> GitFile<'r, R, A> {
 }
 
 // Creates the lockfile of the file at this path, and the parent directories. Another process may
-// meanwhile remove an empty parent directory (git-pack-refs(1)), so a missing one is created again.
+// hold the lock for a moment, or remove an empty parent directory (git-pack-refs(1)). So the attempt
+// is repeated.
 fn create_lock<R: Files>(files: &R, path: &str, lock_path: &str) -> Result<(), Cause> {
     for _ in 1..LOCK_ATTEMPTS {
         match try_lock(files, path, lock_path) {
+            Err(Cause::Locked) => {}
             Err(Cause::System(error)) if error.kind() == ErrorKind::NotFound => {}
             result => return result,
         }
@@ -198,14 +201,22 @@ fn is_no_directory(kind: ErrorKind) -> bool {
     kind == ErrorKind::AlreadyExists || kind == ErrorKind::NotADirectory
 }
 
-/// Syncs the parent directory of a path.
+/// Syncs the parent directory of a path, if the file system can sync directories.
 pub(crate) fn sync_directory<R: Files>(files: &R, path: &str) -> io::Result<()> {
     let parent = match Path::new(path).parent() {
         Some(parent) if parent.as_str().is_empty() => Path::new("."),
         Some(parent) => parent,
         None => return Ok(()),
     };
-    File::open(files, parent)?.sync_all()
+    match File::open(files, parent)?.sync_all() {
+        Err(error) if cannot_sync(error.kind()) => Ok(()),
+        result => result,
+    }
+}
+
+// Returns whether a sync that failed with this error can never succeed (fsync(2), "ERRORS").
+fn cannot_sync(kind: ErrorKind) -> bool {
+    matches!(kind, ErrorKind::InvalidInput | ErrorKind::Unsupported)
 }
 
 impl<R: Files, A: Allocator + Copy> Storage for GitFile<'_, R, A> {
