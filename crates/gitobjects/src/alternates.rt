@@ -23,7 +23,8 @@ pub(crate) struct Folder<A: Allocator + Copy> {
     // The faults of the packs that were left out, or the fault of the pack folder if the folder
     // could not be listed.
     pub(crate) left_out: Vec<FileFault<A>, A>,
-    // The fault of the first alternate that was left out. Only the repository's own folder has it.
+    // The fault of the first alternate or alternates file that was left out. Only the repository's
+    // own folder has it.
     left_out_alternate: Option<FileFault<A>>,
     // The number of alternates files on the way to this folder: 0 for the repository's own folder.
     depth: usize,
@@ -55,7 +56,8 @@ impl<A: Allocator + Copy> Folder<A> {
 /// Returns the object folder of a repository, its alternates, and their alternates recursively. As
 /// in Git, alternates are at most six levels deep. Missing alternates and repeated folders are
 /// skipped, so the search ends even if alternates are cyclic. An alternate that cannot be opened is
-/// left out, and the first such fault is recorded in the repository's own folder.
+/// left out, and so are the alternates in an alternates file that cannot be read. The first such
+/// fault is recorded in the repository's own folder.
 pub(crate) fn object_folders<F: ObjectFiles, A: Allocator + Copy>(
     files: &F,
     alloc: A,
@@ -123,7 +125,7 @@ fn add_all<F: ObjectFiles, A: Allocator + Copy>(
     folder: &str,
     depth: usize,
 ) -> Result<(), StoreFault<A>> {
-    let names = alternate_names(files, alloc, folder)?;
+    let names = alternate_names(files, alloc, folders, folder)?;
     for name in &names {
         let path = path_of(alloc, folder, name.as_str())?;
         add_alternate(files, alloc, folders, path.as_str(), depth)?;
@@ -131,16 +133,25 @@ fn add_all<F: ObjectFiles, A: Allocator + Copy>(
     Ok(())
 }
 
-// Returns the paths in the alternates file of a folder, or no paths if there is no such file.
+// Returns the paths in the alternates file of a folder, or no paths if there is no such file. A file
+// that cannot be opened or read is left out.
 fn alternate_names<F: ObjectFiles, A: Allocator + Copy>(
     files: &F,
     alloc: A,
+    folders: &mut Vec<Folder<A>, A>,
     folder: &str,
 ) -> Result<Vec<String<A>, A>, StoreFault<A>> {
     let path = join(alloc, folder, "info/alternates")?;
     match read_names(files, alloc, path.as_str()) {
         Ok(names) => Ok(names),
-        Err(cause) => Err(fault_at(alloc, path.as_str(), cause)),
+        Err(cause) => {
+            let fault = fault_at(alloc, path.as_str(), cause);
+            if !matches!(cause, Cause::Open(_) | Cause::Read(_)) {
+                return Err(fault);
+            }
+            leave_out(folders, fault)?;
+            Ok(Vec::new(alloc))
+        }
     }
 }
 
@@ -221,8 +232,8 @@ fn add_alternate<F: ObjectFiles, A: Allocator + Copy>(
     }
 }
 
-// Records the fault of an alternate that is left out, unless such a fault is already recorded.
-// Fails only if the fault is `Memory`.
+// Records the fault of an alternate or an alternates file that is left out, unless such a fault is
+// already recorded. Fails only if the fault is `Memory`.
 fn leave_out<A: Allocator + Copy>(
     folders: &mut Vec<Folder<A>, A>,
     fault: StoreFault<A>,
@@ -251,7 +262,7 @@ fn add_folder<F: ObjectFiles, A: Allocator + Copy>(
         return Ok(());
     };
     // This call fails if the process may not search the folder.
-    let _is_there = files.exists(join(alloc, path.as_str(), "pack")?.as_str())?;
+    let _is_there = files.exists(join(alloc, path.as_str(), ".")?.as_str())?;
     add_new(alloc, folders, path, depth)
 }
 

@@ -76,11 +76,15 @@ impl Cause {
         }
     }
 
-    /// Returns whether a file could not be opened or read, or a folder could not be listed. Another
-    /// attempt can succeed although no name in the folder has changed.
-    pub(crate) fn is_of_system(self) -> bool {
+    /// Returns whether a file could not be opened or read, or a folder could not be listed, for a
+    /// reason that can pass although no name in the folder changes. One such reason is that too many
+    /// files are open.
+    pub(crate) fn is_temporary(self) -> bool {
         match self {
-            Cause::Open(_) | Cause::Read(_) | Cause::List(_) => true,
+            Cause::Open(kind) | Cause::Read(kind) | Cause::List(kind) => matches!(
+                kind,
+                ErrorKind::Interrupted | ErrorKind::Other | ErrorKind::Uncategorized
+            ),
             _ => false,
         }
     }

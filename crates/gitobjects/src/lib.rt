@@ -40,20 +40,21 @@
 //! - A pack stays open once found. Git opens packs as needed, and may close them again.
 //! - If an object is not found, Git lists all packs again. This crate lists only folders in which
 //!   names have changed, and each folder at most twice after a change. A listing does not count if a
-//!   file could not be opened or read: each look-up that finds no object then lists the folder.
+//!   fault of it can pass, such as too many open files. Then each look-up that finds no object lists
+//!   the folder.
 //! - Packs with an index of version 1 and packs of version 3 are ignored. Git reads both.
 //!   Multi-pack indexes, bitmaps and commit-graphs are not read.
 //! - Each open pack uses a file descriptor, and the system limits the number of open files. A
 //!   repository with about a thousand packs must be repacked with `git gc`.
-//! - If an object is missing and a pack or an alternate was ignored, the fault names the pack or
-//!   the alternate. Git reports only that the object is missing.
+//! - If an object is missing and a pack or an alternate was ignored, the fault names the pack, the
+//!   alternate or the alternates file. Git reports only that the object is missing.
 //! - If a delta base is broken in its pack, another copy is used, as in Git. In this crate the copy
 //!   must be no larger than 64 MiB, and all bases of the copy must be intact. At most 15 bases of a
 //!   chain may be replaced by copies.
 //! - A quoted path in `info/alternates`, or a path that is not UTF-8, is a fault. Git reads quoted
 //!   paths and paths that are not UTF-8.
-//! - An alternate that is missing or cannot be opened is ignored. Git also ignores it, and prints
-//!   an error.
+//! - An alternate that is missing or cannot be opened is ignored, and so is an alternates file that
+//!   cannot be read. Git also ignores them, and prints an error.
 //! - A pack entry must not have bytes after its stream. Git accepts bytes after the stream.
 //! - A pack whose index has an offset outside the pack is ignored. In Git only the object with that
 //!   offset is broken.

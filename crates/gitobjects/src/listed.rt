@@ -1,5 +1,5 @@
 //! The number of listings of a pack folder since its last change. This number determines whether
-//! the folder must be listed again. A listing does not count if a file could not be opened or read.
+//! the folder must be listed again. A listing does not count if a fault of it can pass.
 
 ghost use Rattle.std.specs.Prelude.{◌≡◌, ◌≢◌, ◌↔◌, IsTrue, Option};
 ghost use Rattle.gitobjects.specs.Listed.{ListsAgain, Twice};

@@ -8,13 +8,17 @@ use crate::order::{EntryOrder, HEADER, Start};
 use crate::paths::pack_path;
 use crate::window::Window;
 use gitobject::ObjectType;
-use gitpack::{EntryForm, MAX_HEAD, PackIndex, read_head};
+use gitpack::{EntryForm, EntryHead, MAX_HEAD, PackIndex, read_head};
 use gname::Oid;
 use gzlib::crc32_of;
 use std::alloc::Allocator;
 
 // The length of the checksum at the end of a pack.
 const TRAILER: usize = 20;
+
+// The number of index positions before and after an entry at which a second copy of its object is
+// looked for.
+const NEIGHBOURS: usize = 16;
 
 /// An open pack, with its index.
 #[derive(Drop)]
@@ -183,10 +187,20 @@ impl<A: Allocator + Copy> PackFile<A> {
         window: &mut Window<P, A>,
         start: usize,
     ) -> Result<LocalForm, Cause> {
+        let head = self.head_at(window, start)?;
+        self.local_form(window, start, head.form)
+    }
+
+    // Returns the header of the entry at this offset.
+    fn head_at<P: OpenPack + Drop>(
+        &self,
+        window: &mut Window<P, A>,
+        start: usize,
+    ) -> Result<EntryHead, Cause> {
         let length = self.length_of(start)?;
         let bytes = window.read_few(self.number, start, length.min(MAX_HEAD))?;
         match read_head(bytes.as_slice()) {
-            Some(head) => self.local_form(start, head.form),
+            Some(head) => Ok(head),
             None => Err(Cause::Head),
         }
     }
@@ -223,13 +237,18 @@ impl<A: Allocator + Copy> PackFile<A> {
         let Some(head) = read_head(bytes.as_slice()) else {
             return Err(Cause::Head);
         };
-        let base = self.base_place(start, head.form)?;
+        let base = self.base_place(window, start, head.form)?;
         Ok(Some(RawEntry { head, base, bytes }))
     }
 
     // Returns the index position of the base of a delta, or `None` if the entry is a whole object.
-    fn base_place(&self, start: usize, form: EntryForm) -> Result<Option<usize>, Cause> {
-        match self.local_form(start, form)? {
+    fn base_place<P: OpenPack + Drop>(
+        &self,
+        window: &mut Window<P, A>,
+        start: usize,
+        form: EntryForm,
+    ) -> Result<Option<usize>, Cause> {
+        match self.local_form(window, start, form)? {
             LocalForm::Delta(base) => match self.order.place_of(base) {
                 Some(place) => Ok(Some(place)),
                 None => Err(Cause::Base),
@@ -247,16 +266,58 @@ impl<A: Allocator + Copy> PackFile<A> {
 
     // Converts the form of the entry at offset `start` to a `LocalForm`, which identifies the base
     // of a delta by its offset.
-    fn local_form(&self, start: usize, form: EntryForm) -> Result<LocalForm, Cause> {
+    fn local_form<P: OpenPack + Drop>(
+        &self,
+        window: &mut Window<P, A>,
+        start: usize,
+        form: EntryForm,
+    ) -> Result<LocalForm, Cause> {
         let base = match form {
             EntryForm::Whole(kind) => return Ok(LocalForm::Whole(kind)),
             EntryForm::OffsetDelta(back) if back > 0 => start.checked_sub(back),
             EntryForm::OffsetDelta(_) => None,
-            EntryForm::RefDelta(id) => self.start_of_id(&id),
+            EntryForm::RefDelta(id) => self.start_of_base(window, &id),
         };
         match base {
             Some(base) => Ok(LocalForm::Delta(base)),
             None => Err(Cause::Base),
+        }
+    }
+
+    // Returns the offset of an entry of the object with this id, or `None` if the object is not in
+    // the pack. A pack can hold an object twice: whole, and as a delta of a delta of the object. A
+    // whole object is preferred, so the chain of such a delta ends. If there are many copies, only
+    // some are examined.
+    fn start_of_base<P: OpenPack + Drop>(
+        &self,
+        window: &mut Window<P, A>,
+        id: &Oid,
+    ) -> Option<usize> {
+        let found = self.index.find(id)?;
+        for place in found.saturating_sub(NEIGHBOURS)..found.saturating_add(NEIGHBOURS) {
+            if place != found && self.is_whole_copy(window, place, id) {
+                return self.start_of(place);
+            }
+        }
+        self.start_of(found)
+    }
+
+    // Returns whether the entry at this index position is a whole object with this id.
+    fn is_whole_copy<P: OpenPack + Drop>(
+        &self,
+        window: &mut Window<P, A>,
+        place: usize,
+        id: &Oid,
+    ) -> bool {
+        if self.index.id(place) != Some(*id) {
+            return false;
+        }
+        let Some(start) = self.start_of(place) else {
+            return false;
+        };
+        match self.head_at(window, start) {
+            Ok(head) => matches!(head.form, EntryForm::Whole(_)),
+            Err(_) => false,
         }
     }
 

@@ -31,8 +31,8 @@ impl<P: OpenPack + Drop, A: Allocator + Copy> Packs<P, A> {
 
     /// Lists a pack folder and opens its new packs, unless the folder was listed twice since the
     /// names in it last changed. Returns whether the folder was listed. A pack that cannot be
-    /// opened is left out, and its fault is recorded in `folder.left_out`. If a system call caused
-    /// such a fault, the listing does not count, so the next call lists the folder again.
+    /// opened is left out, and its fault is recorded in `folder.left_out`. If the cause of such a
+    /// fault is temporary, the listing does not count, so the next call lists the folder again.
     ///
     /// Fails only if out of memory.
     pub(crate) fn list<F: ObjectFiles<Pack = P>>(
@@ -45,7 +45,7 @@ impl<P: OpenPack + Drop, A: Allocator + Copy> Packs<P, A> {
             return Ok(false);
         }
         folder.left_out = self.add_packs(files, folder.pack_folder.as_str())?;
-        if !has_system_fault(folder.left_out.as_slice()) {
+        if !has_temporary_fault(folder.left_out.as_slice()) {
             folder.listed = folder.listed.again(change_time);
         }
         Ok(true)
@@ -156,9 +156,10 @@ fn stems_in<F: ObjectFiles, A: Allocator + Copy>(
     index_stems(alloc, names.as_slice())
 }
 
-// Returns whether a file could not be opened or read, or a folder could not be listed.
-fn has_system_fault<A: Allocator + Copy>(faults: &[FileFault<A>]) -> bool {
-    faults.iter().any(|fault| fault.cause.is_of_system())
+// Returns whether a file could not be opened or read, or a folder could not be listed, for a reason
+// that can pass.
+fn has_temporary_fault<A: Allocator + Copy>(faults: &[FileFault<A>]) -> bool {
+    faults.iter().any(|fault| fault.cause.is_temporary())
 }
 
 // If `outcome` is the fault of a file, adds the fault to `faults` and returns `Ok`. Returns any

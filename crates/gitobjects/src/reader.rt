@@ -18,8 +18,8 @@ use std::alloc::{AllocError, Allocator};
 ///
 /// A call that does not find an object lists the packs again, because Git may have packed the
 /// object meanwhile. A pack folder is listed at most twice after each change of the names in it,
-/// even if many objects are not found. A listing does not count if a file could not be opened or
-/// read, so each such call then lists the folder once. [`ObjectReader::refresh`] lists all folders.
+/// even if many objects are not found. A listing does not count if a fault of it can pass,
+/// so each such call then lists the folder once. [`ObjectReader::refresh`] lists all folders.
 #[derive(Drop)]
 pub struct ObjectReader<'f, F: ObjectFiles, A: Allocator + Copy> {
     pub(crate) store: ObjectStore<'f, F, A>,
@@ -159,10 +159,20 @@ impl<'f, F: ObjectFiles, A: Allocator + Copy> ObjectReader<'f, F, A> {
     // Returns the first intact copy of the object with this id, or `None` if the object is neither
     // in an open pack nor loose. If every copy is broken, fails with the fault of the first copy.
     fn read_listed(&mut self, id: &Oid) -> Result<Option<Object<A>>, StoreFault<A>> {
+        let recent = self.store.recent_pack();
+        match self.read_in(recent, id) {
+            Ok(None) => {}
+            Ok(Some(object)) => return Ok(Some(object)),
+            Err(StoreFault::Memory) => return Err(StoreFault::Memory),
+            Err(_) => {}
+        }
         let mut faults = FirstFault::new();
         for pack in 0..self.store.pack_count() {
             match self.read_in(pack, id) {
-                Ok(Some(object)) => return Ok(Some(object)),
+                Ok(Some(object)) => {
+                    self.store.note_recent_pack(pack);
+                    return Ok(Some(object));
+                }
                 Ok(None) => {}
                 Err(fault) => faults.note(fault)?,
             }
@@ -190,13 +200,25 @@ impl<'f, F: ObjectFiles, A: Allocator + Copy> ObjectReader<'f, F, A> {
     // Returns the type of the object with this id from headers alone, or `None` if no header
     // determines the type. An unreadable header is ignored.
     fn kind_listed(&mut self, id: &Oid) -> Result<Option<ObjectType>, Cause> {
+        let recent = self.store.recent_pack();
+        if let Some(kind) = self.kind_in_pack(recent, id)? {
+            return Ok(Some(kind));
+        }
         for pack in 0..self.store.pack_count() {
-            if let Some(start) = self.store.start_in(pack, id) {
-                if let Some(kind) = self.kind_at(Spot { pack, start })? {
-                    return Ok(Some(kind));
-                }
+            if let Some(kind) = self.kind_in_pack(pack, id)? {
+                self.store.note_recent_pack(pack);
+                return Ok(Some(kind));
             }
         }
         self.store.kind_of_loose(id, &mut *self.inflater)
+    }
+
+    // Returns the type of the object with this id from the headers of a pack alone, or `None` if
+    // they do not determine the type.
+    fn kind_in_pack(&mut self, pack: usize, id: &Oid) -> Result<Option<ObjectType>, Cause> {
+        match self.store.start_in(pack, id) {
+            Some(start) => self.kind_at(Spot { pack, start }),
+            None => Ok(None),
+        }
     }
 }

@@ -17,6 +17,7 @@ use gitpack::PackIndex;
 use gname::Oid;
 use gzlib::Inflater;
 use std::alloc::Allocator;
+use std::cell::Cell;
 
 /// The location of an object.
 #[derive(Clone, Copy, Debug, PartialEq, Eq)]
@@ -38,6 +39,8 @@ pub struct ObjectStore<'f, F: ObjectFiles, A: Allocator + Copy> {
     // The repository's own object folder, and its alternates.
     folders: Vec<Folder<A>, A>,
     packs: Packs<F::Pack, A>,
+    // The number of the pack in which an object was found most recently.
+    recent: Cell<usize>,
 }
 
 impl<'f, F: ObjectFiles, A: Allocator + Copy> ObjectStore<'f, F, A> {
@@ -59,6 +62,7 @@ impl<'f, F: ObjectFiles, A: Allocator + Copy> ObjectStore<'f, F, A> {
             own,
             folders: Vec::new(alloc),
             packs: Packs::new(alloc),
+            recent: Cell::new(0),
         };
         store.reload()?;
         Ok(store)
@@ -75,7 +79,7 @@ impl<'f, F: ObjectFiles, A: Allocator + Copy> ObjectStore<'f, F, A> {
     }
 
     /// Lists each pack folder that was listed fewer than twice since the names in it last changed.
-    /// Returns whether a folder was listed. A listing does not count if a system call failed.
+    /// Returns whether a folder was listed. A listing does not count if a fault of it can pass.
     ///
     /// Fails only if out of memory.
     pub(crate) fn list_stale(&mut self) -> Result<bool, StoreFault<A>> {
@@ -135,8 +139,9 @@ impl<'f, F: ObjectFiles, A: Allocator + Copy> ObjectStore<'f, F, A> {
         }
     }
 
-    /// Returns the location of the object with this id, or `None` if the object is missing. Packs
-    /// are searched before loose objects. Folders are not listed again.
+    /// Returns the location of the object with this id, or `None` if the object is missing. The pack
+    /// in which an object was found most recently is searched first, as in Git, then the other
+    /// packs, and then the loose objects. Folders are not listed again.
     ///
     /// Fails with `File` if the object is not found and a folder is unreadable. Fails with `Memory`
     /// if out of memory.
@@ -204,15 +209,34 @@ impl<'f, F: ObjectFiles, A: Allocator + Copy> ObjectStore<'f, F, A> {
         Ok(false)
     }
 
-    // Returns the location of the object in the first pack that contains the object, or `None` if
-    // no pack contains the object.
+    // Returns the location of the object in the most recently used pack or, if that pack lacks the
+    // object, in the first pack that contains it. Returns `None` if no pack contains the object.
     fn find_packed(&self, id: &Oid) -> Option<Found> {
+        let recent = self.recent.get();
+        if let Some(place) = self.place_in(recent, id) {
+            return Some(Found::Packed {
+                pack: recent,
+                place,
+            });
+        }
         for pack in 0..self.packs.len() {
             if let Some(place) = self.place_in(pack, id) {
+                self.recent.set(pack);
                 return Some(Found::Packed { pack, place });
             }
         }
         None
+    }
+
+    /// Returns the number of the pack in which an object was found most recently. There may be no
+    /// such pack.
+    pub(crate) fn recent_pack(&self) -> usize {
+        self.recent.get()
+    }
+
+    /// Records that an object was found in the pack with this number.
+    pub(crate) fn note_recent_pack(&self, pack: usize) {
+        self.recent.set(pack);
     }
 
     // Returns the position of the object in the index of a pack, or `None` if there is no such pack
