@@ -625,6 +625,26 @@ stays_open has entries waiting old new received trees fates way = record {
 
 -- ---- the list of commits and tags
 
+-- a parent of a listed commit or tag is left out, and nothing below it is walked
+pub parent_alone : {A : Type 0} (has : Id → GitObject → Type 0) (located : Id → Found → Type 0) (old new : Walk A) (a : Id) (found : Option Found)
+    → new.received ≡ old.received → new.trees.items ≡ old.trees.items → Settles located old a NotSent found new
+    → StaysDecided old.fates new.fates
+    × ((entries : List (Entry A)) → IsParent entries a → IsOpen has entries old → IsOpen has entries new)
+    × (HasNoReceived old → IsDecided new.fates a)
+parent_alone has located old new a None received trees settles = (
+  keeps_same old.fates new.fates settles.1,
+  λ entries parent way. stays_open has entries (ids_of entries) old new received trees settles.1 way,
+  λ alone. decided_more old.fates new.fates (keeps_same old.fates new.fates settles.1) a (covered_decided old a alone settles.0),
+)
+parent_alone has located old new a (Some found) received trees sets = (
+  puts_keeps old.fates new.fates a d sets.undecided sets.puts,
+  λ entries parent way. parent_left has located entries (ids_of entries) old new a d received trees parent refl sets way,
+  λ alone. (NotSent, fate_here old.fates new.fates a d sets.puts),
+)
+  where
+    d : Decided
+    d = record { fate = NotSent; found = found; kind = None }
+
 pub all_listed : {A : Type 0} (entries : List (Entry A)) → All (HasIdIn (ids_of entries)) entries
 all_listed [] = All-nil (HasIdIn [])
 all_listed (e ∷ entries) =

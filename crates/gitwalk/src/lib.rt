@@ -29,7 +29,8 @@
 //!
 //! # Differences from Git
 //!
-//! - A parent that is not listed is left out, with everything that its tree reaches.
+//! - A parent of a listed commit that is not listed is left out, with everything that its tree
+//!   reaches. If the target of a listed tag is not listed, only the target itself is left out.
 //! - The ids of the commits, tags and trees that are read are computed and checked. Each of these
 //!   objects is hashed once. Git does not check these ids.
 //!

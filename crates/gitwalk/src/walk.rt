@@ -23,7 +23,7 @@ use gitobject::{Link, ObjectFault, ObjectType, commit_links, split_entry};
 use gitobjects::{Found, Object, ObjectFiles, ObjectReader, StoreFault};
 use gitpack::IndexedEntry;
 use gname::Oid;
-use gobject::Entry;
+use gobject::{Entry, Kind};
 use std::alloc::Allocator;
 
 /// A store whose objects are read to find the objects to send.
@@ -100,9 +100,9 @@ fn names_object(id: &Oid, kind: ObjectType, body: &[u8])
 /// sent. The trees and blobs that the listed commits reach are also sent, unless a parent outside
 /// the list reaches them.
 ///
-/// Reads the listed objects, the parents outside the list, and all trees that they reach, and
-/// checks their ids. Each of these objects is hashed once. The blobs that trees name are only
-/// located.
+/// Reads the listed objects, the parents of listed commits outside the list, and all trees that
+/// these commits reach, and checks their ids. Each of these objects is hashed once. The blobs that
+/// trees name are only located, and so are the targets of listed tags outside the list.
 ///
 /// Fails with `Store` at the first object that is missing, or that is read and is broken or has
 /// another id. Fails with `Malformed` at a commit or tree that is malformed. Fails with `Type` if a
@@ -210,7 +210,8 @@ impl<'r, A: Allocator + Copy> Walk<'r, A> {
     }
 
     // Marks the unlisted parents of listed commits, and the trees and blobs that these parents
-    // reach, as not sent, because the peer has them.
+    // reach, as not sent, because the peer has them. Also marks the unlisted targets of listed tags,
+    // but not what they reach: a tag leads to no tree that is sent.
     fn leave_out_parents<S: WalkedStore<A>>(
         &mut self,
         store: &mut S,
@@ -223,8 +224,86 @@ impl<'r, A: Allocator + Copy> Walk<'r, A> {
         ensures parents { OnOk result (HasNoReceived self.old
             → All (HasDecidedParents self.new.fates) entries.now) }
     {
+        self.leave_out_below_commits(store, entries)?;
+        self.leave_out_targets(store, entries)?;
+        Ok(())
+    }
+
+    // Marks the unlisted parents of listed commits, and the trees and blobs that these parents
+    // reach, as not sent.
+    fn leave_out_below_commits<S: WalkedStore<A>>(
+        &mut self,
+        store: &mut S,
+        entries: &[Entry<A>],
+    ) -> Result<(), WalkFault<A>>
+        ensures received { OnOk result (self.new.received ≡ self.old.received) }
+        ensures empty { self.old.trees.items ≡ [] → OnOk result (self.new.trees.items ≡ []) }
+        ensures keeps { OnOk result (StaysDecided self.old.fates self.new.fates) }
+        ensures open { OnOk result (IsOpen S.has entries.now self.old
+            → IsOpen S.has entries.now self.new) }
+    {
         for entry in entries {
-            self.leave_out(store, entry.node.parents.as_slice())?;
+            self.leave_out_below(store, entry.node.kind, entry.node.parents.as_slice())?;
+        }
+        Ok(())
+    }
+
+    // Marks these parents of a listed commit, and the trees and blobs that they reach, as not sent,
+    // if their fates are undecided. Marks nothing if `kind` is a tag.
+    fn leave_out_below<S: WalkedStore<A>>(
+        &mut self,
+        store: &mut S,
+        kind: Kind,
+        parents: &[Oid],
+    ) -> Result<(), WalkFault<A>>
+        ensures received { OnOk result (self.new.received ≡ self.old.received) }
+        ensures empty { self.old.trees.items ≡ [] → OnOk result (self.new.trees.items ≡ []) }
+        ensures keeps { OnOk result (StaysDecided self.old.fates self.new.fates) }
+        ensures open { OnOk result ((entries : List (GraphEntry A)) → All (IsParent entries) parents.now
+            → IsOpen S.has entries self.old → IsOpen S.has entries self.new) }
+    {
+        match kind {
+            Kind::Commit => self.leave_out(store, parents),
+            Kind::Tag => Ok(()),
+        }
+    }
+
+    // Marks the parents of listed commits and the targets of listed tags as not sent, if their fates
+    // are undecided.
+    fn leave_out_targets<S: WalkedStore<A>>(
+        &mut self,
+        store: &mut S,
+        entries: &[Entry<A>],
+    ) -> Result<(), WalkFault<A>>
+        ensures empty { self.old.trees.items ≡ [] → OnOk result (self.new.trees.items ≡ []) }
+        ensures keeps { OnOk result (StaysDecided self.old.fates self.new.fates) }
+        ensures open { OnOk result (IsOpen S.has entries.now self.old
+            → IsOpen S.has entries.now self.new) }
+        ensures parents { OnOk result (HasNoReceived self.old
+            → All (HasDecidedParents self.new.fates) entries.now) }
+    {
+        for entry in entries {
+            self.leave_out_ids(store, entry.node.parents.as_slice())?;
+        }
+        Ok(())
+    }
+
+    // Marks these parents of listed commits or tags as not sent, if their fates are undecided.
+    fn leave_out_ids<S: WalkedStore<A>>(
+        &mut self,
+        store: &mut S,
+        parents: &[Oid],
+    ) -> Result<(), WalkFault<A>>
+        ensures received { OnOk result (self.new.received ≡ self.old.received) }
+        ensures empty { self.old.trees.items ≡ [] → OnOk result (self.new.trees.items ≡ []) }
+        ensures keeps { OnOk result (StaysDecided self.old.fates self.new.fates) }
+        ensures open { OnOk result ((entries : List (GraphEntry A)) → All (IsParent entries) parents.now
+            → IsOpen S.has entries self.old → IsOpen S.has entries self.new) }
+        ensures parents { OnOk result (HasNoReceived self.old
+            → All (IsDecided self.new.fates) parents.now) }
+    {
+        for id in parents {
+            let _found = self.settle(store, id, Fate::NotSent)?;
         }
         Ok(())
     }

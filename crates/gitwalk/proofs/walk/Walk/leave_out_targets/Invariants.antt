@@ -1,6 +1,6 @@
 use Rattle.std.proofs.Common.{◌≡◌, [], All, take}
 use Rattle.gitwalk.specs.steps.Walking.{HasDecidedParents, HasNoReceived, IsOpen, StaysDecided}
-use Rattle.gitwalk.proofs.walk.Walk.leave_out_parents.Given as goal
+use Rattle.gitwalk.proofs.walk.Walk.leave_out_targets.Given as goal
 
 abbrev pub invariant-loop-entry : goal.invariant-loop-entry
 invariant-loop-entry g l =
