@@ -131,9 +131,17 @@ fn open_new<R: Files>(files: &R, path: &str) -> io::Result<R::File> {
         .open(files, path)
 }
 
-/// Syncs a folder.
+/// Syncs a folder, if the file system can sync folders.
 pub(crate) fn sync_folder<R: Files>(files: &R, path: &str) -> io::Result<()> {
-    File::open(files, path)?.sync_all()
+    match File::open(files, path)?.sync_all() {
+        Err(error) if cannot_sync(error.kind()) => Ok(()),
+        result => result,
+    }
+}
+
+// Returns whether a sync that failed with this error can never succeed (fsync(2), "ERRORS").
+fn cannot_sync(kind: ErrorKind) -> bool {
+    matches!(kind, ErrorKind::InvalidInput | ErrorKind::Unsupported)
 }
 
 /// Returns the path of the folder of packs of a Git directory. Creates the folder if it does not
