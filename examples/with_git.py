@@ -482,22 +482,61 @@ def large_pack(folder, ours, theirs):
 
 def stored_twice(folder, ours):
     """A pack has a blob whole, and again as deltas of a delta of it. The pack that is served has no circle of deltas."""
-    path, first = new_repository(f"{folder}/served/stored-twice.git"), b"a line\n" * 20
+    first = b"a line\n" * 20
     second = first + b"more"
     tree = b"100644 first\0" + id_of("blob", first) + b"100644 second\0" + id_of("blob", second)
     commit = b"tree %s\n%s\nm\n" % (id_of("tree", tree).hex().encode(), WHO)
     base, copied = whole("blob", first), copy_of(0, len(first))
-    onward = by_offset(len(base), size_of(len(first)) + size_of(len(second)) + copied + b"\4more")
+    change = size_of(len(first)) + size_of(len(second)) + copied + b"\4more"
     back = by_id(id_of("blob", second), size_of(len(second)) + size_of(len(first)) + copied)
-    entries = [(first, base), (second, onward), *[(first, back)] * 8]
-    entries = [(id_of("blob", body), entry) for body, entry in entries]
-    put_entries(path, entries + [(id_of(kind, body), whole(kind, body)) for kind, body in (("tree", tree), ("commit", commit))])
-    git(path, "update-ref", BRANCH, id_of("commit", commit).hex())
-    for name, words in (("git", ["git", "clone", "--quiet", "--mirror"]), ("gitrepo", [PROGRAM, "clone", "--quiet"])):
-        what, copy = f"{name} clone of a blob that is stored twice", f"{folder}/stored-twice-{name}"
-        done = attempt(*words, ours.url("stored-twice.git"), copy)
-        if check(what, done, done):
-            same_repository(what, path, copy)
+    for number, entries in enumerate((
+        [(first, base), (second, by_offset(len(base), change)), *[(first, back)] * 8],
+        [(first, back), (second, by_id(id_of("blob", first), change)), (first, base), (first, back)],
+    )):
+        path = new_repository(f"{folder}/served/stored-twice-{number}.git")
+        entries = [(id_of("blob", body), entry) for body, entry in entries]
+        put_entries(path, entries + [(id_of(kind, body), whole(kind, body)) for kind, body in (("tree", tree), ("commit", commit))])
+        git(path, "update-ref", BRANCH, id_of("commit", commit).hex())
+        for name, words in (("git", ["git", "clone", "--quiet", "--mirror"]), ("gitrepo", [PROGRAM, "clone", "--quiet"])):
+            what, copy = f"{name} clone of a blob that is stored twice, {number}", f"{folder}/stored-twice-{name}-{number}"
+            done = attempt(*words, ours.url(f"stored-twice-{number}.git"), copy)
+            if check(what, done, done):
+                same_repository(what, path, copy)
+        check(f"a blob that is stored twice, {number}: gitrepo check", gitrepo("check", path))
+
+
+def tags_alone(folder, ours):
+    """A client that has the tagged commits receives the tags alone."""
+    path, copy = new_repository(f"{folder}/served/tags-alone.git"), f"{folder}/tags-alone"
+    add_history(path, 60, 47)
+    for number, commit in enumerate(git(path, "rev-list", BRANCH).split()[::7]):
+        git(path, "tag", "--annotate", "--message=t", f"old{number}", commit)
+    git(None, "clone", "--quiet", "--bare", "--single-branch", "--no-tags", ours.url("tags-alone.git"), copy)
+    before = stored(copy)
+    done = attempt("git", "fetch", "--quiet", "--tags", "origin", cwd=copy)
+    check("tags alone: fetched", done and refs(copy, "refs/tags") == refs(path, "refs/tags") and not faults_of(copy), done)
+    tags = git(path, "for-each-ref", "--format=%(objectname)", "refs/tags").split()
+    more = set(stored(copy)) - set(before) - set(tags)
+    check("tags alone: nothing more", not more, [git(copy, "cat-file", "-t", it) for it in more])
+
+
+def deleted_meanwhile(folder):
+    """A branch is deleted during a fetch that relies on it, and git gc removes what only that branch reaches."""
+    path, copy, hook, other = new_repository(f"{folder}/merged.git"), new_repository(f"{folder}/merged-copy.git"), f"{folder}/hook", "refs/heads/other"
+    add_history(path, 20, 48)
+    add_history(path, 20, 49, branch=other, onto=tip(path))
+    git(copy, "fetch", "--quiet", "--no-tags", path, f"{BRANCH}:{BRANCH}", f"{other}:{other}")
+    git(copy, "repack", "-a", "-d", "--quiet")
+    before = tip(copy)
+    merge = git(path, "commit-tree", "-p", BRANCH, "-p", other, "-m", "m", f"{other}^{{tree}}")
+    git(path, "update-ref", BRANCH, merge)
+    write(hook, f"#!/bin/sh\ngit -C '{copy}' update-ref -d {other} && git -C '{copy}' gc --quiet --prune=now\nexec \"$@\"\n".encode())
+    os.chmod(hook, 0o755)
+    with GitDaemon(folder, before=("-c", f"uploadpack.packObjectsHook={hook}")) as theirs:
+        done = gitrepo("fetch", copy, theirs.url("merged.git"), f"{BRANCH}:{BRANCH}")
+    refuses("a fetch while a branch is deleted", done, f"{other} was deleted or moved during the fetch")
+    check("a fetch while a branch is deleted: no ref moves", tip(copy) == before and not tip(copy, other), refs(copy))
+    check("a fetch while a branch is deleted: fsck", not faults_of(copy), faults_of(copy))
 
 
 # ---- what is broken or refused
@@ -664,6 +703,9 @@ def paths(folder, ours):
         got = answer_to(ours.port, hello(path))
         refused = got[4:8] == b"ERR " and int(got[:4], 16) == len(got) or got == b""
         check(f"the path {path[:60]!r}: refused", refused, got[:200])
+    for path in ("one-pack.git/", "one-pack/", "one-pack//", "work//"):
+        done = gitrepo("check", f"{folder}/served/{path}")
+        check(f"gitrepo check {path}: slashes at the end count for nothing", done, done)
     for path in (b"/one-pack.git", b"/one-pack", b"/work", b"/linked", b"/super", b"/super/inner"):
         got = answer_to(ours.port, hello(path))
         check(f"the path {path!r}: served", got.startswith(packet(b"version 2\n")), got[:200])
@@ -773,6 +815,7 @@ def try_all(folder):
         many_commits(folder, ours, theirs)
         large_pack(folder, ours, theirs)
         stored_twice(folder, ours)
+        tags_alone(folder, ours)
         standard_streams(folder, ours)
         check("no connection so far had a fault", not [it for it in ours.log() if "cannot" in it or "fault" in it], ours.log())
         broken_refs(folder, ours)
@@ -781,6 +824,7 @@ def try_all(folder):
         kinds(folder, ours, theirs)
         paths(folder, ours)
         words(folder, theirs)
+    deleted_meanwhile(folder)
     exports(folder)
     ended(folder)
 

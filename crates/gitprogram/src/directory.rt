@@ -89,13 +89,14 @@ impl Directories {
 }
 
 /// Returns the repository at a path, which names a bare repository or a work tree
-/// (git-upload-pack(1)).
+/// (git-upload-pack(1)). Slashes at the end of the path are ignored.
 pub(crate) fn find_repository<R>(rt: &R, path: &str) -> Result<Directories, Fault>
 where
     R: Files + AllocGlobal,
 {
+    let front = without_slashes(path);
     for ending in Ending::in_order() {
-        let mut candidate = String::from_str(rt.alloc(), path)?;
+        let mut candidate = String::from_str(rt.alloc(), front)?;
         candidate.push_str(ending.text())?;
         if let Some(found) = repository_at(rt, candidate)? {
             return Ok(found);
@@ -103,6 +104,18 @@ where
     }
     let text = NO_REPOSITORY;
     Err(Fault::of(rt.alloc(), Sentence::Path { path, text }))
+}
+
+// Returns a path without the slashes at its end. A path of slashes only keeps the first one.
+fn without_slashes(path: &str) -> &str {
+    let mut front = path;
+    for _ in 0..path.len() {
+        match front.strip_suffix('/') {
+            Some(shorter) if !shorter.is_empty() => front = shorter,
+            _ => break,
+        }
+    }
+    front
 }
 
 /// The repositories that a server may serve.

@@ -8,6 +8,7 @@ ghost use Rattle.gsession.specs.Keeping.{KeepsOn};
 use crate::current::fetched_already;
 use crate::directory::{Directories, find_repository};
 use crate::fault::Fault;
+use crate::history::check_history;
 use crate::limits::{LIMITS, MAX_FETCHED_PACK};
 use crate::opening::{open_client, repository_fault};
 use crate::output::Output;
@@ -25,7 +26,8 @@ use gitobject::ObjectType;
 use gitobjects::StoredFiles;
 use gitrefs::RefUpdate as RefMove;
 use gitrepository::{
-    Received, RepositoryFault, StoreIndexer, StoredSpool, StoredSpools, Tips, install_pack,
+    KeptPack, Received, RepositoryFault, StoreIndexer, StoredSpool, StoredSpools, Tips,
+    install_pack,
 };
 use gitwords::{FetchArgs, Verbosity};
 use glsreply::LsReply;
@@ -276,16 +278,46 @@ fn check_sources(
 ) -> Result<(), Fault> {
     for spec in specs {
         if !is_pattern(spec) && !has_source(listed, spec) {
-            return Err(Fault::of(
-                alloc,
-                Sentence::NoRef {
-                    url: remote.url.as_str(),
-                    name: spec.prefix().as_bytes(),
-                },
-            ));
+            return Err(no_ref(alloc, remote, spec));
         }
     }
     Ok(())
+}
+
+// Returns the fault for a refspec that names a ref that the server does not have.
+fn no_ref(alloc: Global, remote: &Remote, spec: &Spec<Global>) -> Fault {
+    let url = remote.url.as_str();
+    let name = spec.prefix().as_bytes();
+    Fault::of(alloc, Sentence::NoRef { url, name })
+}
+
+// Fails if a refspec that is not a pattern names a ref that the fetch did not find. The server can
+// delete the ref after the first listing of its refs.
+fn check_asked(alloc: Global, wanted: Wanted<'_>, fetched: &Fetched<Global>) -> Result<(), Fault> {
+    for spec in wanted.specs {
+        if !is_pattern(spec) && !is_asked(alloc, fetched, spec)? {
+            return Err(no_ref(alloc, wanted.remote, spec));
+        }
+    }
+    Ok(())
+}
+
+// Returns whether the fetch has found the ref that a refspec names. An unborn HEAD counts as found.
+fn is_asked(alloc: Global, fetched: &Fetched<Global>, spec: &Spec<Global>) -> Result<bool, Fault> {
+    if spec.is_head() && fetched.unborn.is_some() {
+        return Ok(true);
+    }
+    let Ok(source) = RefName::new(alloc, spec.prefix().as_bytes()) else {
+        return Err(Fault::Memory);
+    };
+    let Ok(Some(destination)) = spec.destination(alloc, &source) else {
+        return Err(Fault::Memory);
+    };
+    let asks = &fetched.settled.asks;
+    Ok((0..asks.len()).any(|index| match asks.at(index) {
+        Some((name, _id)) => *name == destination,
+        None => false,
+    }))
 }
 
 // Returns whether a refspec is a pattern, which can match any number of refs.
@@ -313,8 +345,11 @@ fn keep<'r, R: Files + AllocGlobal>(
     received: Option<StoredReceived<'r, R>>,
 ) -> Result<(), Fault> {
     let updates = checked_updates(rt, found, client)?;
-    match install_and_move(rt, found, received, updates.as_slice()) {
-        Ok(()) => Ok(()),
+    let Some(received) = received else {
+        return move_refs(rt, found, client, updates.as_slice());
+    };
+    match install(rt, found, received, updates.as_slice()) {
+        Ok(_kept) => move_refs(rt, found, client, updates.as_slice()),
         Err(fault) => Err(repository_fault(rt.alloc(), found.common.as_str(), &fault)),
     }
 }
@@ -347,22 +382,34 @@ fn check_names(alloc: Global, updates: &[RefMove]) -> Result<(), Fault> {
     Ok(())
 }
 
-fn install_and_move<'r, R: Files + AllocGlobal>(
+// Installs a pack. Git keeps all its objects until the returned `KeptPack` is dropped.
+fn install<'r, R: Files + AllocGlobal>(
     rt: &'r R,
     found: &Directories,
-    received: Option<StoredReceived<'r, R>>,
+    received: StoredReceived<'r, R>,
     updates: &[RefMove],
-) -> Result<(), RepositoryFault<Global>> {
+) -> Result<KeptPack<'r, R, Global>, RepositoryFault<Global>> {
     let alloc = rt.alloc();
-    match received {
-        Some(received) => {
-            found.refs(alloc, rt).check_updates(updates)?;
-            let _kept = install_pack(alloc, rt, found.common.as_str(), received)?;
-            found.refs(alloc, rt).update_refs(updates)?;
+    found.refs(alloc, rt).check_updates(updates)?;
+    install_pack(alloc, rt, found.common.as_str(), received)
+}
+
+// Updates the refs, unless a ref on which the fetch relies was deleted or moved meanwhile.
+fn move_refs<R: Files + AllocGlobal>(
+    rt: &R,
+    found: &Directories,
+    client: &Client,
+    updates: &[RefMove],
+) -> Result<(), Fault> {
+    let alloc = rt.alloc();
+    check_history(rt, found, &client.before)?;
+    match found.refs(alloc, rt).update_refs(updates) {
+        Ok(()) => Ok(()),
+        Err(fault) => {
+            let fault = RepositoryFault::from(fault);
+            Err(repository_fault(alloc, found.common.as_str(), &fault))
         }
-        None => found.refs(alloc, rt).update_refs(updates)?,
     }
-    Ok(())
 }
 
 // Returns the refs that the fetch changes.
@@ -436,7 +483,9 @@ where
         Ok((repository, reader)) => {
             let spools = StoredSpools::new(rt.alloc(), rt, found.common.as_str());
             let mut indexer = StoreIndexer::new(reader, wanted.tips, spools);
-            receive_with(rt, found, repository, &mut indexer, wanted, progress)
+            let fetch = receive_with(rt, found, repository, &mut indexer, wanted, progress)?;
+            check_asked(rt.alloc(), wanted, &fetch.fetched)?;
+            Ok(fetch)
         }
         Err(fault) => Err(fault),
     }

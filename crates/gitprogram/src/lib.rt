@@ -50,15 +50,16 @@
 //!   and those being rebased or bisected. A branch that only another worktree uses can move. If
 //!   `core.bare` is not set in the file `config`, a repository has a work tree if its directory is
 //!   named `.git`, or if a `.git` file leads to it.
-//! - By default, `serve` accepts at most 1,024 connections at once, and at most 64 from one
-//!   address. A client must send its first line within 10 seconds, the first byte of a request
-//!   within 60 seconds, and the rest of the request within another 60 seconds. A client that
-//!   accepts no byte for 60 seconds is disconnected. A connection may last 10 minutes, plus a
-//!   second for each 8,192 bytes sent to the client. No client waits for the input or output of
-//!   another client. All clients wait while the server reads a history, or looks up or deflates
-//!   objects, for one client. At most 16 object stores are open at once, and `serve` refuses a
-//!   client that needs the objects of a 17th repository. In Git, `--max-connections=0` means no
-//!   limit; `serve` refuses this value. `upload-pack` waits for its client without a time limit.
+//! - By default, `serve` accepts at most 1,024 connections at once, and at most 64 from one IPv4
+//!   address, or from the IPv6 addresses with the same first 64 bits. A client must send its first
+//!   line within 10 seconds, the first byte of a request within 60 seconds, and the rest of the
+//!   request within another 60 seconds. A client that accepts no byte for 60 seconds is
+//!   disconnected. A connection may last 10 minutes, plus a second for each 8,192 bytes sent to the
+//!   client. No client waits for the input or output of another client. All clients wait while the
+//!   server reads a history, or looks up or deflates objects, for one client. At most 16 object
+//!   stores are open at once, and `serve` refuses a client that needs the objects of a 17th
+//!   repository. In Git, `--max-connections=0` means no limit; `serve` refuses this value.
+//!   `upload-pack` waits for its client without a time limit.
 //! - `core.sharedRepository` and `core.logAllRefUpdates` are ignored: new files have the default
 //!   permissions, and no reflog is written.
 //! - `serve` and `upload-pack` refuse a repository if a ref file is malformed, or if the object of
@@ -118,6 +119,7 @@ mod disk;
 mod fault;
 mod fetching;
 mod first_line;
+mod history;
 mod kept;
 mod limits;
 mod listing;

@@ -310,8 +310,8 @@ fn read_with_leaves<R: Files, F: ObjectFiles>(
     Ok(repository)
 }
 
-// Returns the graph, refs and HEAD of a repository.
-fn read_repository<R: Files, F: ObjectFiles>(
+/// Returns the graph, refs and HEAD of a repository.
+pub(crate) fn read_repository<R: Files, F: ObjectFiles>(
     rt: &R,
     files: &F,
     found: &Directories,

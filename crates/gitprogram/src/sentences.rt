@@ -68,6 +68,9 @@ pub(crate) const NOT_FORWARD: &str =
 pub(crate) const NO_COMMIT: &str =
     "would be at a tag, a tree or a blob, but a branch is at a commit: fetch into refs/tags/";
 
+/// Why a fetch moves no ref if another ref no longer leads to the objects that it led to before.
+pub(crate) const LOST: &str = "was deleted or moved during the fetch: fetch again";
+
 /// Why a fetch does not update a ref whose name is not UTF-8.
 pub(crate) const NO_FILE_NAME: &str = "is not UTF-8: fetch into another ref";
 
