@@ -20,8 +20,8 @@ pub struct PackCounts {
     /// The number of loose objects, which were deflated again or sent as new deltas.
     pub loose: u32,
     /// The number of stored pack entries that could not be copied: deltas whose base is not sent or
-    /// is stored twice, and broken entries. The objects of these entries were deflated again or sent
-    /// as new deltas.
+    /// is twice in their pack, and broken entries. The objects of these entries were deflated again
+    /// or sent as new deltas.
     pub renewed: u32,
     /// The number of objects counted in `loose` or `renewed` that were sent as new deltas.
     pub made: u32,
