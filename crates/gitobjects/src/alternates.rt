@@ -57,7 +57,7 @@ impl<A: Allocator + Copy> Folder<A> {
 /// in Git, alternates are at most six levels deep. Missing alternates and repeated folders are
 /// skipped, so the search ends even if alternates are cyclic. An alternate that cannot be opened is
 /// left out, and so are the alternates in an alternates file that cannot be read. The first such
-/// fault is recorded in the repository's own folder.
+/// fault is recorded in the repository's own folder. A temporary fault is returned instead.
 pub(crate) fn object_folders<F: ObjectFiles, A: Allocator + Copy>(
     files: &F,
     alloc: A,
@@ -134,7 +134,7 @@ fn add_all<F: ObjectFiles, A: Allocator + Copy>(
 }
 
 // Returns the paths in the alternates file of a folder, or no paths if there is no such file. A file
-// that cannot be opened or read is left out.
+// that cannot be opened or read is left out, unless the fault is temporary.
 fn alternate_names<F: ObjectFiles, A: Allocator + Copy>(
     files: &F,
     alloc: A,
@@ -217,7 +217,7 @@ fn path_of<A: Allocator + Copy>(
 }
 
 // Adds the folder with this path, if the folder exists and was not added before. A folder that
-// cannot be opened is left out. A fault names the path.
+// cannot be opened is left out, unless the fault is temporary. A fault names the path.
 fn add_alternate<F: ObjectFiles, A: Allocator + Copy>(
     files: &F,
     alloc: A,
@@ -233,13 +233,16 @@ fn add_alternate<F: ObjectFiles, A: Allocator + Copy>(
 }
 
 // Records the fault of an alternate or an alternates file that is left out, unless such a fault is
-// already recorded. Fails only if the fault is `Memory`.
+// already recorded. Fails only if the fault is temporary or is `Memory`.
 fn leave_out<A: Allocator + Copy>(
     folders: &mut Vec<Folder<A>, A>,
     fault: StoreFault<A>,
 ) -> Result<(), StoreFault<A>> {
     match fault {
         StoreFault::File(fault) => {
+            if fault.cause.is_temporary() {
+                return Err(StoreFault::File(fault));
+            }
             if let Some(own) = folders.first_mut() {
                 if own.left_out_alternate.is_none() {
                     own.left_out_alternate = Some(fault);

@@ -83,7 +83,13 @@ impl Cause {
         match self {
             Cause::Open(kind) | Cause::Read(kind) | Cause::List(kind) => matches!(
                 kind,
-                ErrorKind::Interrupted | ErrorKind::Other | ErrorKind::Uncategorized
+                ErrorKind::Interrupted
+                    | ErrorKind::WouldBlock
+                    | ErrorKind::TimedOut
+                    | ErrorKind::ResourceBusy
+                    | ErrorKind::StaleNetworkFileHandle
+                    | ErrorKind::Other
+                    | ErrorKind::Uncategorized
             ),
             _ => false,
         }

@@ -19,9 +19,9 @@ pub struct PackCounts {
     pub deltas: u32,
     /// The number of loose objects, which were deflated again or sent as new deltas.
     pub loose: u32,
-    /// The number of stored pack entries that could not be copied: deltas whose base is not sent or
-    /// is twice in their pack, and broken entries. The objects of these entries were deflated again
-    /// or sent as new deltas.
+    /// The number of stored pack entries that could not be copied: deltas whose base is not sent,
+    /// some deltas whose base is stored twice, and broken entries. The objects of these entries were
+    /// deflated again or sent as new deltas.
     pub renewed: u32,
     /// The number of objects counted in `loose` or `renewed` that were sent as new deltas.
     pub made: u32,

@@ -82,8 +82,9 @@
 //!   list, the packer assumes that the client has the parent. It also assumes that the client has
 //!   everything that the tree of the parent reaches.
 //! - New deltas are made only for objects that are not copied: loose objects, stored deltas whose
-//!   base is not sent or is twice in their pack, and objects with broken entries. Only these are
-//!   bases of new deltas. Git also makes new deltas for objects that are stored whole in a pack.
+//!   base is not sent, some stored deltas whose base is stored twice, and objects with broken
+//!   entries. Only these are bases of new deltas. Git also makes new deltas for objects that are
+//!   stored whole in a pack.
 //! - Before deltas are made, objects are sorted by the ends of their paths, but not by size. No new
 //!   delta is made for an object of more than 8 MiB; Git's limit is 512 MiB.
 //! - A graph holds at most 1,048,576 commits and tags, with at most 64 parents each.

@@ -22,8 +22,8 @@ use std::cell::{Cell, RefCell};
 /// trees that are read to find these objects are computed and checked.
 ///
 /// The stream of a stored pack entry is copied unchanged if the entry is undeltified, or is a delta
-/// whose base is also sent. If a pack holds the base twice, the delta may be deflated again. So are
-/// all other objects, as new deltas against each other if the deltas are small.
+/// whose base is also sent. If the base is stored twice, the delta may be deflated again. So are all
+/// other objects, as new deltas against each other if the deltas are small.
 #[derive(Drop)]
 pub struct StorePacker<'f, F: ObjectFiles, A: Allocator + Copy> {
     reader: RefCell<ObjectReader<'f, F, A>>,
