@@ -520,23 +520,40 @@ def tags_alone(folder, ours):
     check("tags alone: nothing more", not more, [git(copy, "cat-file", "-t", it) for it in more])
 
 
-def deleted_meanwhile(folder):
-    """A branch is deleted during a fetch that relies on it, and git gc removes what only that branch reaches."""
-    path, copy, hook, other = new_repository(f"{folder}/merged.git"), new_repository(f"{folder}/merged-copy.git"), f"{folder}/hook", "refs/heads/other"
+def changed_meanwhile(folder):
+    """A repository changes during a fetch into it. No ref moves if the fetch relies on an object that git gc removed."""
+    path, hook, other, mine = new_repository(f"{folder}/changed.git"), f"{folder}/hook", "refs/heads/other", "refs/heads/mine"
+    merged, single, gc = "refs/heads/merged", "refs/heads/single", "gc --quiet --prune=now"
     add_history(path, 20, 48)
     add_history(path, 20, 49, branch=other, onto=tip(path))
-    git(copy, "fetch", "--quiet", "--no-tags", path, f"{BRANCH}:{BRANCH}", f"{other}:{other}")
-    git(copy, "repack", "-a", "-d", "--quiet")
-    before = tip(copy)
-    merge = git(path, "commit-tree", "-p", BRANCH, "-p", other, "-m", "m", f"{other}^{{tree}}")
-    git(path, "update-ref", BRANCH, merge)
-    write(hook, f"#!/bin/sh\ngit -C '{copy}' update-ref -d {other} && git -C '{copy}' gc --quiet --prune=now\nexec \"$@\"\n".encode())
-    os.chmod(hook, 0o755)
-    with GitDaemon(folder, before=("-c", f"uploadpack.packObjectsHook={hook}")) as theirs:
-        done = gitrepo("fetch", copy, theirs.url("merged.git"), f"{BRANCH}:{BRANCH}")
-    refuses("a fetch while a branch is deleted", done, f"{other} was deleted or moved during the fetch")
-    check("a fetch while a branch is deleted: no ref moves", tip(copy) == before and not tip(copy, other), refs(copy))
-    check("a fetch while a branch is deleted: fsck", not faults_of(copy), faults_of(copy))
+    for name, parents in {merged: (BRANCH, other), single: (BRANCH,)}.items():
+        words = [word for parent in parents for word in ("-p", parent)]
+        git(path, "update-ref", name, git(path, "commit-tree", *words, "-m", "m", f"{parents[-1]}^{{tree}}"))
+    for number, (what, names, before, changes, lost) in enumerate((
+        ("a branch is deleted and pruned", [merged], (), (f"update-ref -d {other}", gc), other),
+        ("a branch is deleted", [merged], (), (f"update-ref -d {other}",), None),
+        ("a branch of its own is replaced and pruned", [merged], (f"update-ref {mine} {{own}}",), (f"update-ref {mine} {BRANCH}", gc), None),
+        ("HEAD leaves a commit that is pruned", [single, other], (f"update-ref --no-deref HEAD {other}", f"update-ref -d {other}"),
+         (f"symbolic-ref HEAD {BRANCH}", gc), "HEAD"),
+    )):
+        copy = new_repository(f"{folder}/changed-{number}.git")
+        git(copy, "fetch", "--quiet", "--no-tags", path, f"{BRANCH}:{BRANCH}", f"{other}:{other}")
+        own = git(copy, "commit-tree", "-p", BRANCH, "-m", "own", f"{BRANCH}^{{tree}}")
+        for words in before:
+            git(copy, *words.format(own=own).split())
+        git(copy, "repack", "-a", "-d", "--quiet")
+        lines = " && ".join(f"git -C '{copy}' {words}" for words in changes)
+        write(hook, f'#!/bin/sh\n{lines}\nexec "$@"\n'.encode())
+        os.chmod(hook, 0o755)
+        with GitDaemon(folder, before=("-c", f"uploadpack.packObjectsHook={hook}")) as theirs:
+            done = gitrepo("fetch", copy, theirs.url("changed.git"), *(f"{name}:{name}" for name in names))
+        if lost:
+            refuses(f"a fetch while {what}", done, f"{lost} was deleted or moved during the fetch")
+        else:
+            check(f"a fetch while {what}", done, done)
+        moved = [name for name in names if tip(copy, name) == tip(path, name)]
+        check(f"a fetch while {what}: the refs that move", moved == ([] if lost else names), refs(copy))
+        check(f"a fetch while {what}: fsck", not faults_of(copy), faults_of(copy))
 
 
 # ---- what is broken or refused
@@ -824,7 +841,7 @@ def try_all(folder):
         kinds(folder, ours, theirs)
         paths(folder, ours)
         words(folder, theirs)
-    deleted_meanwhile(folder)
+    changed_meanwhile(folder)
     exports(folder)
     ended(folder)
 

@@ -8,7 +8,7 @@ ghost use Rattle.gsession.specs.Keeping.{KeepsOn};
 use crate::current::fetched_already;
 use crate::directory::{Directories, find_repository};
 use crate::fault::Fault;
-use crate::history::check_history;
+use crate::history::{Planned, check_history};
 use crate::limits::{LIMITS, MAX_FETCHED_PACK};
 use crate::opening::{open_client, repository_fault};
 use crate::output::Output;
@@ -66,11 +66,13 @@ pub(crate) struct Wanted<'a> {
     pub(crate) path: &'a str,
 }
 
-/// A client's repository, and its refs before the fetch.
+/// A client's repository, and its refs and HEAD before the fetch.
 #[derive(Drop)]
 pub(crate) struct Client {
     /// The refs before the fetch.
     pub(crate) before: Refs<Global>,
+    /// HEAD before the fetch.
+    pub(crate) head: Head<Global>,
     /// The repository.
     pub(crate) repo: Repo<Global>,
 }
@@ -394,15 +396,25 @@ fn install<'r, R: Files + AllocGlobal>(
     install_pack(alloc, rt, found.common.as_str(), received)
 }
 
-// Updates the refs, unless a ref on which the fetch relies was deleted or moved meanwhile.
+// Updates the refs, unless another process removed an object on which the fetch relies.
 fn move_refs<R: Files + AllocGlobal>(
     rt: &R,
     found: &Directories,
     client: &Client,
     updates: &[RefMove],
 ) -> Result<(), Fault> {
+    if updates.is_empty() {
+        return Ok(());
+    }
     let alloc = rt.alloc();
-    check_history(rt, found, &client.before)?;
+    check_history(
+        rt,
+        Planned {
+            found,
+            client,
+            updates,
+        },
+    )?;
     match found.refs(alloc, rt).update_refs(updates) {
         Ok(()) => Ok(()),
         Err(fault) => {
@@ -525,14 +537,10 @@ fn make_client(
     ensures graph { IfOk result (λ client. client.repo.graph ≡ repository.graph) }
     ensures refs { IfOk result (λ client. client.repo.refs ≡ repository.refs) }
 {
-    let Repository {
-        graph,
-        refs,
-        head: _,
-    } = repository;
+    let Repository { graph, refs, head } = repository;
     let before = refs.copy_in(alloc)?;
     match Repo::new(graph, refs) {
-        Ok(repo) => Ok(Client { before, repo }),
+        Ok(repo) => Ok(Client { before, head, repo }),
         Err(fault) => Err(Fault::of(
             alloc,
             Sentence::Client {

@@ -202,10 +202,10 @@ fn find_whole<'f, F: ObjectFiles>(
     Ok((whole, reader))
 }
 
-// Returns the history that is reachable from refs and HEAD. Fails if the object of a ref is
-// missing. A server must not leave out such a ref, because `git fetch --prune` would delete the
-// client's copy.
-fn read_history<F: ObjectFiles>(
+/// Returns the history that is reachable from refs and HEAD. Fails if the object of a ref is
+/// missing. A server must not leave out such a ref, because `git fetch --prune` would delete the
+/// client's copy.
+pub(crate) fn read_history<F: ObjectFiles>(
     files: &F,
     path: &str,
     reader: &mut Reader<'_, F>,
@@ -310,8 +310,8 @@ fn read_with_leaves<R: Files, F: ObjectFiles>(
     Ok(repository)
 }
 
-/// Returns the graph, refs and HEAD of a repository.
-pub(crate) fn read_repository<R: Files, F: ObjectFiles>(
+// Returns the graph, refs and HEAD of a repository.
+fn read_repository<R: Files, F: ObjectFiles>(
     rt: &R,
     files: &F,
     found: &Directories,
