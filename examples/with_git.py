@@ -523,14 +523,17 @@ def tags_alone(folder, ours):
 def changed_meanwhile(folder):
     """A repository changes during a fetch into it. No ref moves if the fetch relies on an object that git gc removed."""
     path, hook, other, mine = new_repository(f"{folder}/changed.git"), f"{folder}/hook", "refs/heads/other", "refs/heads/mine"
-    merged, single, gc = "refs/heads/merged", "refs/heads/single", "gc --quiet --prune=now"
+    merged, single, same, gc = "refs/heads/merged", "refs/heads/single", "refs/heads/same", "gc --quiet --prune=now"
     add_history(path, 20, 48)
     add_history(path, 20, 49, branch=other, onto=tip(path))
-    for name, parents in {merged: (BRANCH, other), single: (BRANCH,)}.items():
+    for name, parents, tree in ((merged, (BRANCH, other), other), (single, (BRANCH,), BRANCH), (same, (BRANCH,), other)):
         words = [word for parent in parents for word in ("-p", parent)]
-        git(path, "update-ref", name, git(path, "commit-tree", *words, "-m", "m", f"{parents[-1]}^{{tree}}"))
+        git(path, "update-ref", name, git(path, "commit-tree", *words, "-m", "m", f"{tree}^{{tree}}"))
+    # With a bitmap, git sends no object that a common commit reaches.
+    git(path, "repack", "-a", "-d", "-b", "--quiet")
     for number, (what, names, before, changes, lost) in enumerate((
         ("a branch is deleted and pruned", [merged], (), (f"update-ref -d {other}", gc), other),
+        ("a branch with the same tree is deleted and pruned", [same], (), (f"update-ref -d {other}", gc), other),
         ("a branch is deleted", [merged], (), (f"update-ref -d {other}",), None),
         ("a branch of its own is replaced and pruned", [merged], (f"update-ref {mine} {{own}}",), (f"update-ref {mine} {BRANCH}", gc), None),
         ("HEAD leaves a commit that is pruned", [single, other], (f"update-ref --no-deref HEAD {other}", f"update-ref -d {other}"),

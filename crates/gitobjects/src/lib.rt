@@ -53,8 +53,8 @@
 //!   chain may be replaced by copies.
 //! - A quoted path in `info/alternates`, or a path that is not UTF-8, is a fault. Git reads quoted
 //!   paths and paths that are not UTF-8.
-//! - An alternate that is missing or cannot be opened is ignored, and so is an alternates file that
-//!   cannot be read. Git also ignores them, and prints an error.
+//! - A missing or unusable alternate is ignored, and so is an unreadable alternates file, unless
+//!   the fault is temporary. Git also ignores them if it is temporary, and prints an error.
 //! - A pack entry must not have bytes after its stream. Git accepts bytes after the stream.
 //! - A pack whose index has an offset outside the pack is ignored. In Git only the object with that
 //!   offset is broken.

@@ -48,8 +48,8 @@ impl<'f, F: ObjectFiles, A: Allocator + Copy> ObjectStore<'f, F, A> {
     /// pack or an alternate that cannot be opened or used is left out: see
     /// [`ObjectStore::left_out`].
     ///
-    /// Fails with `Memory`, or with a fault that names the missing object folder or the unusable
-    /// alternates file.
+    /// Fails with `Memory`, or with a fault that names the missing object folder, the unusable
+    /// alternates file, or an alternate with a temporary fault.
     pub fn open(
         files: &'f F,
         alloc: A,

@@ -396,7 +396,7 @@ fn install<'r, R: Files + AllocGlobal>(
     install_pack(alloc, rt, found.common.as_str(), received)
 }
 
-// Updates the refs, unless another process removed an object on which the fetch relies.
+// Updates the refs, unless an object that they would reach was removed meanwhile.
 fn move_refs<R: Files + AllocGlobal>(
     rt: &R,
     found: &Directories,

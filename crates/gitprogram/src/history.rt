@@ -3,9 +3,9 @@
 use crate::directory::Directories;
 use crate::fault::Fault;
 use crate::fetching::{Client, ref_fault};
-use crate::opening::{Reader, open_reader, read_history, repository_fault};
+use crate::opening::{Reader, first_left_out, open_reader, repository_fault};
 use crate::sentences::LOST;
-use ggraph::{Entry, Graph, Head, Refs};
+use ggraph::{Entry, Graph, Head, Refs, Repository};
 use gitobjects::{ObjectFiles, StoreFault, StoredFiles};
 use gitrefs::RefUpdate as RefMove;
 use gitrepository::{RepositoryFault, open_refs, read_commit_graph};
@@ -14,7 +14,8 @@ use gname::{Oid, RefName};
 use std::alloc::{AllocError, Global};
 use std::rt::Files;
 
-// The maximum number of checks. A check is repeated if refs changed while it ran.
+// The maximum number of checks. A check is repeated if refs changed while it ran. The last check
+// counts even if refs changed.
 const MAX_CHECKS: usize = 4;
 
 /// The refs that a fetch is about to update.
@@ -32,8 +33,9 @@ pub(crate) struct Planned<'a> {
 /// refs and HEAD reached at its start. `git gc` can remove some of it if a ref was deleted or moved
 /// meanwhile. The received pack must already be installed.
 ///
-/// Objects are read only if an object that a ref or HEAD pointed to at the start is one that no ref
-/// points to now.
+/// Objects are read only if a ref or a detached HEAD pointed to an object at the start, and none
+/// points to this object now. So the check does not notice that an unreachable tree or blob was
+/// removed, on which a fetch can also rely. Nor does it notice what is removed after it has begun.
 pub(crate) fn check_history<R: Files + AllocGlobal>(
     rt: &R,
     planned: Planned<'_>,
@@ -105,8 +107,12 @@ fn check_objects<R: Files + AllocGlobal>(
     if is_held(&present.graph, planned.client) {
         return Ok(None);
     }
-    let after = refs_after(alloc, planned.updates)?;
-    match check_new(&files, path, &mut reader, &after, &present.graph) {
+    let updated = refs_after(alloc, planned.updates)?;
+    let outcome = match open_refs(&mut reader, &commits, &updated, Head::None) {
+        Ok(after) => check_new(&mut reader, &updated, &after, &present.graph),
+        Err(fault) => Err(fault),
+    };
+    match outcome {
         Ok(()) => Ok(None),
         Err(fault) if is_missing(&fault) => Ok(Some(lost_name(planned.client, &present.graph)?)),
         Err(fault) => Err(fault),
@@ -140,14 +146,16 @@ fn refs_after(alloc: Global, updates: &[RefMove]) -> Result<Refs<Global>, Reposi
 }
 
 // Fails at a missing object that these refs reach, and the commits and tags in `present` do not.
+// `after` is the repository with these refs, except those whose objects are missing.
 fn check_new<F: ObjectFiles>(
-    files: &F,
-    path: &str,
     reader: &mut Reader<'_, F>,
     refs: &Refs<Global>,
+    after: &Repository<Global>,
     present: &Graph<Global>,
 ) -> Result<(), RepositoryFault<Global>> {
-    let after = read_history(files, path, reader, refs, &Head::None)?;
+    if let Some(id) = first_left_out(refs, &after.refs) {
+        return Err(RepositoryFault::from(StoreFault::Missing(id)));
+    }
     let entries = entries_beside(reader.store().allocator(), &after.graph, present)?;
     let _fates = gather(reader, entries.as_slice())?;
     Ok(())

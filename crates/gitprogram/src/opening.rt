@@ -202,10 +202,10 @@ fn find_whole<'f, F: ObjectFiles>(
     Ok((whole, reader))
 }
 
-/// Returns the history that is reachable from refs and HEAD. Fails if the object of a ref is
-/// missing. A server must not leave out such a ref, because `git fetch --prune` would delete the
-/// client's copy.
-pub(crate) fn read_history<F: ObjectFiles>(
+// Returns the history that is reachable from refs and HEAD. Fails if the object of a ref is
+// missing. A server must not leave out such a ref, because `git fetch --prune` would delete the
+// client's copy.
+fn read_history<F: ObjectFiles>(
     files: &F,
     path: &str,
     reader: &mut Reader<'_, F>,
@@ -222,9 +222,9 @@ pub(crate) fn read_history<F: ObjectFiles>(
     }
 }
 
-// Returns the id of the first ref in `listed` that `held` lacks. `held` has some of the refs in
-// `listed`, in the same order.
-fn first_left_out(listed: &Refs<Global>, held: &Refs<Global>) -> Option<Oid> {
+/// Returns the id of the first ref in `listed` that `held` lacks. `held` has some of the refs in
+/// `listed`, in the same order.
+pub(crate) fn first_left_out(listed: &Refs<Global>, held: &Refs<Global>) -> Option<Oid> {
     if held.len() == listed.len() {
         return None;
     }
